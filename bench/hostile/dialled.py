@@ -6,19 +6,20 @@ import re
 import threading
 import time
 
-from wire import (ACK, CONNECT, CONNECTED, DISCONNECT, DISCONNECTED, EXAMPLES, HOST, NEW, REQUEST, TELLS_STATE, Gate, Relay, acknowledgement, asks_state, connect,
-                  connected, datagram, disconnect, disconnected, download, end_of, endpoint, memory, pour, refused, request, served,
-                  service, start, tells_state, to_device, want)
+from wire import (ACK, CONNECT, CONNECTED, DISCONNECT, EXAMPLES, HOST, NEW, REQUEST, TELLS_STATE, Gate, Relay, acknowledgement, connected, disconnect, disconnected,
+                  download, end_of, endpoint, refused, request, served, service, start, tells_state, want)
 
 CASES = []
 
 # The datagrams of an honest load each way, and the longest that any lie may make it, in seconds.
-DATAGRAMS, SLOWEST = 171, 100
+DATAGRAMS, SLOWEST = 171, 120
 
 FLOOR = str(EXAMPLES / "floor.txt")
 
 REPORT = re.compile(r"job 1 load 1\.1\.5 (done|open|failed(?: (?:nocon|closed|silent|tunnel)){3}|refused \d+ got (?:[0-9A-F]+|-) expected (?:[0-9A-F]+|-))\n"
                     r"(?:heard .*\n)*missed 0\n(?:log .*\n)*(?:dropped (\d+)\n)?(gateway refused(?: (?:[0-9A-F]{2}|-)){3}\n|flooded\n)?")
+
+OTHER_LINE = re.compile(r"wrong line 1\.1\.5 tunnel \d+\.\d+\.\d+\n")
 
 
 def case(promise):
@@ -29,8 +30,11 @@ def case(promise):
 
 
 def judge(found, state):
-    """A report has its form, its status, and tells done only of a device that runs the new project."""
+    """A report has its form, its status, and tells done only of a device that runs the new project. Of a tunnel on another line just that is told, and nothing is written."""
     text, status = found
+    if OTHER_LINE.fullmatch(text):
+        want(status == 12 and state in ("old", "none"), f"{found}, and the device is {state}")
+        return "wrong line", state
     told = REPORT.fullmatch(text)
     want(told, f"no report: {found}")
     end = told[1].split()[0]
@@ -285,109 +289,6 @@ def wrong_acknowledgements(tried):
             return [acknowledgement(7, octets[8] + k) for k in range(1, 256)] + [acknowledgement(8, octets[8]), acknowledgement(7, octets[8], 0x24)]
         return []
     return ends_of_gate(tried, answer)
-
-
-# ---- counts
-
-@case("`dropped` is exactly what came and acts on nothing: all twice")
-def all_twice(tried):
-    with served(tried.prog) as line, Relay(line.port, lambda way, k, octets: [octets, octets] if way == "down" else [octets]) as relay:
-        text, status = download(tried.prog, relay.port, "log")
-        want(status == 0 and line.state() == "new", f"{text!r} {status}")
-    # of what comes twice a request is acknowledged again, and a response or an acknowledgement dropped
-    # where it is still there to be dropped
-    wanted = sum(service(octets) not in (REQUEST, DISCONNECTED) for way, octets in relay.seen if way == "down")
-    want(text.endswith(f"\ndropped {wanted}\n"), f"wanted {wanted}: {text!r}")
-    return f"dropped {wanted}"
-
-
-def noise(r, channel, octets):
-    """Datagrams that act on nothing, whatever is awaited: of what comes next, its channel and its number tell what they mustn't be."""
-    number = octets[8] if service(octets) == REQUEST else 0
-    kind = r.randrange(10)
-    if kind == 0:
-        return r.randbytes(r.choice((0, 1, 5, 511, 512, 513, 1472, 65507)))
-    if kind == 1:
-        return datagram(r.choice((0x201, 0x203, 0x530, 0x310)), r.randbytes(r.randrange(64)))
-    if kind == 2:
-        return octets[:4] + (len(octets) + r.randrange(1, 9)).to_bytes(2, "big") + octets[6:]
-    if kind == 3:
-        return octets[:r.randrange(len(octets))]
-    if kind == 4:
-        return r.choice((connect(), asks_state(channel)))
-    other = channel + r.randrange(1, 256) & 255
-    if kind == 5:
-        return r.choice((disconnect(other), disconnected(other), tells_state(other), acknowledgement(other, 0), request(other, number, to_device(b"\x80", 0x29))))
-    if kind == 6:
-        return tells_state(channel, r.randrange(256))
-    if kind == 7:
-        return acknowledgement(channel, r.randrange(256), r.randrange(1, 256))
-    if service(octets) == REQUEST:
-        return request(channel, number + r.randrange(1, 255), to_device(b"\x80", 0x29))
-    return connected(other)
-
-
-@case("`dropped` is exactly what came and acts on nothing: noise before each datagram")
-def noise_counted(tried):
-    sent, each = [0], max(1, tried.count // DATAGRAMS)
-
-    def lie(way, k, octets):
-        if way == "down" and service(octets) not in (CONNECTED, DISCONNECTED):
-            sent[0] += pour(relay.front, relay.client[1], (noise(tried.random, 1, octets) for _ in range(each)))
-        return [octets]
-    with served(tried.prog) as line, Relay(line.port, lie) as relay:
-        text, status = download(tried.prog, relay.port, "log")
-        state = line.state()
-        want(status == 0 and state == "new", f"{text!r} {status} {state}")
-    want(text.endswith(f"\ndropped {sent[0]}\n"), f"wanted {sent[0]}: {text!r}")
-    return f"dropped {sent[0]}"
-
-
-# ---- floods
-
-@case("a flood of noise on a client that waits for its channel ends with its wait, and takes no memory")
-def flood_before(tried):
-    with endpoint() as gate:
-        client = start(tried.prog, "download", f"{HOST}:{gate.getsockname()[1]}", NEW, "log")
-        gate.settimeout(20)
-        _, sender = gate.recvfrom(600)
-        before = sent = 0
-        gate.settimeout(0)
-        while client.poll() is None:
-            try:
-                _, sender = gate.recvfrom(600)
-            except BlockingIOError:
-                if sent < tried.count:
-                    sent += pour(gate, sender[1], (b"\x06\x10" for _ in range(min(1000, tried.count))))
-                else:
-                    time.sleep(0.1)
-            before, after = before or memory(client.pid), memory(client.pid) or after
-        found = end_of(client)
-    want(found[1] == 10 and found[0].endswith("\ngateway refused - - -\n"), f"{found}")
-    want(after <= 1.1 * before, f"memory grew from {before} to {after} octets")
-    return f"{sent} datagrams, {before} octets of memory at the beginning and {after} at the end; {found[0].splitlines()[-2]}"
-
-
-@case("group telegrams as fast as they are acknowledged are heard, each is told, and none of them ends a job")
-def flood_of_telegrams(tried):
-    telegram, sent, numbers = bytes.fromhex("2900BCE011090A03010081"), [0], {}
-
-    def lie(way, k, octets):
-        """Puts telegrams behind each request of the gateway, which has other numbers for the client then."""
-        if way == "down" and service(octets) == REQUEST:
-            first = octets[8] + sent[0]
-            burst = min(20, tried.count - sent[0])
-            sent[0] += burst
-            numbers[first & 255] = octets[8]
-            return [octets[:8] + bytes([first & 255]) + octets[9:], *(request(octets[7], first + n, telegram) for n in range(1, burst + 1))]
-        if way == "up" and service(octets) == ACK:
-            return [octets[:8] + bytes([numbers.pop(octets[8])]) + octets[9:]] if octets[8] in numbers else []
-        return [octets]
-    with served(tried.prog) as line, Relay(line.port, lie) as relay:
-        text, status = download(tried.prog, relay.port)
-        want(status == 0 and line.state() == "new", f"{text[:200]!r} {status}")
-    want(text.count("heard 1/2/3 1.1.9 write s01\n") == sent[0], f"{sent[0]} sent, {text.count('heard')} heard")
-    return f"{sent[0]} telegrams"
 
 
 # ---- strangers

@@ -45,6 +45,19 @@ def wants(tried, *rows):
     want(not bad, "; ".join(bad))
 
 
+def counts(them):
+    return ", ".join(f"{them.count(it)} {it}" for it in sorted(set(them)))
+
+
+def begun_gateway(tried, **how):
+    """A gateway that has its port, or has ended, and the port."""
+    port = free_port()
+    gateway = start(tried.prog, "gateway", f"{HOST}:{port}", OLD, NOTHING, "turns=1000000000", **how)
+    while gateway.poll() is None and not is_bound(port):
+        time.sleep(0.01)
+    return gateway, port
+
+
 # ---- words
 
 @case("words that are no command, of any length and octets, are answered by the usage line")
@@ -203,20 +216,18 @@ def signals(tried):
             return case
     turns = range(1, 172) if tried.count >= 20_000 else tried.random.sample(range(1, 172), 8)
     cases = tried.each([(turn, kinds[turn % 4]) for turn in turns], attack)
-    return ", ".join(f"{cases.count(it)} {it}" for it in sorted(set(cases)))
+    return counts(cases)
 
 
 @case("a gateway frees the tunnel of a client that was killed after 120 s, and then comes to its end")
 def freed_tunnel(tried):
-    port = free_port()
-    gateway = start(tried.prog, "gateway", f"{HOST}:{port}", OLD, NOTHING, "turns=100000")
-    while gateway.poll() is None and not is_bound(port):
-        time.sleep(0.01)
+    gateway, port = begun_gateway(tried)
     Client(port).sock.close()
     begun = time.monotonic()
     found = end_of(gateway, 200)
     took = time.monotonic() - begun
-    want(found == ("ended\n", 0) and 119 < took < 140, f"{found} after {took:.0f} s")
+    # each of its turns of 100 ms takes longer on a busy machine
+    want(found == ENDED and 119 < took < 180, f"{found} after {took:.0f} s")
     return f"after {took:.0f} s"
 
 
@@ -301,24 +312,30 @@ def refused_memory(tried):
 def refused_memory_of_download(tried):
     with served(tried.prog) as line:
         cases = []
-        note = least(tried, ["download", f"{HOST}:{line.port}", NEW], LOADED, lambda: cases.append(line.state()))
-        return f"{note}; the device was {', '.join(sorted(set(cases)))} meanwhile"
+        note = least(tried, ["download", f"{HOST}:{line.port}", NEW], LOADED, lambda: cases.append(line.renewed()))
+        return f"{note}; the device was {counts(cases)} meanwhile"
 
 
 class Refusing:
     """Runs a program whose N-th growth of memory is refused (refuse.c)."""
 
     def __init__(self, folder):
-        self.library, self.told = f"{folder}/refuse.so", f"{folder}/refused"
+        self.folder, self.library = folder, f"{folder}/refuse.so"
         subprocess.run(["cc", "-shared", "-fPIC", "-O2", "-o", self.library, str(pathlib.Path(__file__).with_name("refuse.c")), "-ldl"], check=True)
+
+    def told(self, number):
+        """The file that is there where this growth was refused."""
+        return pathlib.Path(self.folder, f"refused-{number}")
+
+    def environment(self, number, later):
+        self.told(number).unlink(missing_ok=True)
+        return {"LD_PRELOAD": self.library, "KNX_REFUSE": str(number), "KNX_REFUSED": str(self.told(number)), **({"KNX_REFUSE_ON": "1"} if later else {})}
 
     def run(self, number, words, later):
         """What came, and whether a growth was refused."""
-        with contextlib.suppress(FileNotFoundError):
-            os.remove(self.told)
-        env = {"LD_PRELOAD": self.library, "KNX_REFUSE": str(number), "KNX_REFUSED": self.told, **({"KNX_REFUSE_ON": "1"} if later else {})}
+        env = self.environment(number, later)
         ran = subprocess.run(words, stdin=subprocess.DEVNULL, capture_output=True, env=env, check=False, timeout=LONGEST)
-        return (ran.stdout.decode("utf-8", "replace"), ran.returncode), os.path.exists(self.told)
+        return (ran.stdout.decode("utf-8", "replace"), ran.returncode), self.told(number).exists()
 
     def each(self, words, wanted, judge=lambda: None, most=1500):
         """Refuses each growth in turn, alone and with all later ones; of more than `most` some are drawn by chance, as many in each stretch."""
@@ -350,7 +367,7 @@ def each_growth_refused(tried):
     with tempfile.TemporaryDirectory() as folder:
         refusing = Refusing(folder)
         office = str(EXAMPLES / "office.txt"), f"catalogue={EXAMPLES / 'office.toml'}"
-        commands = [["check", *office], ["tables", *office], SIM, ["decode", "06100209001001000801000000000000"]]
+        commands = [["check", *office], ["tables", *office], SIM, ["big", "1", "7"], ["decode", "06100209001001000801000000000000"]]
         return ", ".join(refusing.each([tried.prog, *words], call(tried, *words)) for words in commands)
 
 
@@ -360,16 +377,41 @@ def each_growth_refused_of_download(tried):
         return "not tried: it needs a C compiler"
     with tempfile.TemporaryDirectory() as folder, served(tried.prog) as line:
         cases = []
-        note = Refusing(folder).each([tried.prog, "download", f"{HOST}:{line.port}", NEW], LOADED, lambda: cases.append(line.state()), most=max(1, tried.count // 250))
-        return f"{note}; the device was {', '.join(sorted(set(cases)))} then"
+        note = Refusing(folder).each([tried.prog, "download", f"{HOST}:{line.port}", NEW], LOADED, lambda: cases.append(line.renewed()), most=max(1, tried.count // 250))
+        return f"{note}; the device was {counts(cases)} then"
+
+
+@case("each growth of memory that is refused in a gateway is told by status 8, or it serves as before")
+def each_growth_refused_of_gateway(tried):
+    if not shutil.which("cc"):
+        return "not tried: it needs a C compiler"
+    with tempfile.TemporaryDirectory() as folder:
+        refusing = Refusing(folder)
+
+        def attack(item):
+            """How a gateway ended; nothing where it asked for fewer growths."""
+            number, later = item
+            gateway, port = begun_gateway(tried, env=refusing.environment(number, later))
+            found = download(tried.prog, port) if gateway.poll() is None else None
+            ending = end_of(gateway)
+            if not refusing.told(number).exists():
+                want((found, ending) == (LOADED, ENDED), f"{found}, and the gateway ended with {ending}")
+                return None
+            want(ending == ("no memory\n", 8) or (found, ending) == (LOADED, ENDED), f"{found}, and the gateway ended with {ending}")
+            return "loaded" if found == LOADED else "not loaded" if found else "not begun"
+        ends = []
+        for later in (False, True):
+            for number in range(1, max(2, tried.count // 50), 16):
+                got = tried.each([(n, later) for n in range(number, number + 16)], attack, 16)
+                ends += [it for it in got if it]
+                if None in got:
+                    break
+        return f"{len(ends)} growths: {counts(ends)}"
 
 
 @case("a gateway with 32 MiB serves on after a flood")
-def little_memory_of_gateway(tried):
-    port = free_port()
-    gateway = start(tried.prog, "gateway", f"{HOST}:{port}", OLD, NOTHING, "turns=1000000000", preexec_fn=limited(1 << 25))
-    while gateway.poll() is None and not is_bound(port):
-        time.sleep(0.01)
+def refused_memory_of_gateway(tried):
+    gateway, port = begun_gateway(tried, preexec_fn=limited(1 << 25))
     with endpoint() as sock:
         sent = pour(sock, port, (b"\xff" * 512 for _ in range(tried.count)))
     found = download(tried.prog, port)

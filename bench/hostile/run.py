@@ -9,6 +9,7 @@ import argparse
 import concurrent.futures
 import pathlib
 import random
+import signal
 import sys
 import threading
 import time
@@ -16,11 +17,12 @@ import traceback
 
 import dialled
 import outside
+import poured
 import served
 import wire
 
 ROOT = pathlib.Path(__file__).resolve().parents[2]
-TABLES = {"served": served.CASES, "dialled": dialled.CASES, "outside": outside.CASES}
+TABLES = {"served": served.CASES, "dialled": dialled.CASES + poured.CASES, "outside": outside.CASES}
 
 
 class Tried:
@@ -76,6 +78,9 @@ def main():
     parser.add_argument("--at-once", type=int, default=1)
     args = parser.parse_args()
     args.prog = str(pathlib.Path(args.prog).resolve())
+    # behind `nohup` or `&` these are ignored, and would be by each program that is begun here
+    signal.signal(signal.SIGINT, signal.default_int_handler)
+    signal.signal(signal.SIGHUP, signal.SIG_DFL)
     cases = [it for name, table in TABLES.items() if args.table in (None, name) for it in table if args.only in it[0]]
     with concurrent.futures.ThreadPoolExecutor(args.at_once) as together:
         kept = list(together.map(lambda it: run(args, *it), cases))

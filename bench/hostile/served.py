@@ -4,7 +4,7 @@ import socket
 import struct
 import time
 
-from wire import (ACK, CONNECT, DISCONNECT, HOST, LOADED, NOTHING, OLD, REQUEST, Client, Relay, acknowledgement, asks_state, connect, disconnect, download, drain,
+from wire import (ACK, CONNECT, DISCONNECT, HOST, LOADED, NOTHING, OLD, REQUEST, Client, Level, Relay, acknowledgement, asks_state, connect, disconnect, download, drain,
                   end_of, endpoint, free_port, is_bound, memory, pour, queued, request, served, service, start, to_device, want)
 
 CASES = []
@@ -17,26 +17,10 @@ def case(promise):
     return add
 
 
-class Level:
-    """What a gateway has in memory while datagrams are poured into it. What is over takes none: at the end it has at most a tenth more than after the first tenth."""
-
-    def __init__(self, line):
-        self.pid, self.seen = line.process.pid, []
-
-    def look(self):
-        self.seen.append(memory(self.pid))
-
-    def told(self, sent):
-        self.look()
-        first, last = self.seen[len(self.seen) // 10], self.seen[-1]
-        want(last <= 1.1 * first, f"{sent} datagrams, {first >> 10} KiB of memory after the first tenth of them and {last >> 10} after the last")
-        return f"{sent} datagrams, {first >> 10} KiB of memory after the first tenth of them, {last >> 10} after the last"
-
-
 def poured(tried, make, hosts=(HOST,)):
     """Pours the datagrams into a fresh gateway, and serves an honest client afterwards; none may be lost before the program takes it."""
     with served(tried.prog) as line:
-        level, sent = Level(line), 0
+        level, sent = Level(line.process.pid), 0
         for host in hosts:
             with endpoint(host) as sock:
                 sent += pour(sock, line.port, make(), look=level.look)
@@ -51,7 +35,7 @@ def poured(tried, make, hosts=(HOST,)):
 def mutated(r, octets):
     """A datagram with a few octets changed, cut off, or with more behind it; one in two has the length that it says."""
     octets = bytearray(octets)
-    for _ in range(r.choice((0, 1, 1, 2, 5))):
+    for _ in range(r.choice((0, 1, 1, 2, 5)) if octets else 0):
         octets[r.randrange(len(octets))] = r.choice((0, 1, 0x7F, 0x80, 0xFF, r.randrange(256)))
     cut = r.choice((0, 0, 0, 1))
     octets = octets[:r.randint(0, len(octets))] if cut else octets + r.randbytes(r.choice((0, 0, 1, 14, 300, 600)))
@@ -93,11 +77,11 @@ def no_channel(tried):
 
 # ---- floods
 
-def flooded(tried, make):
-    """Pours datagrams into an open channel from its own address, and serves an honest client afterwards."""
+def flooded(tried, make, least=0):
+    """Pours datagrams, at least so many, into an open channel from its own address, and serves an honest client afterwards."""
     with served(tried.prog) as line:
-        client, level = Client(line.port), Level(line)
-        note = level.told(pour(client.sock, line.port, (make(client.channel, k) for k in range(tried.count)), look=level.look))
+        client, level = Client(line.port), Level(line.process.pid)
+        note = level.told(pour(client.sock, line.port, (make(client.channel, k) for k in range(max(tried.count, least))), look=level.look))
         client.sock.close()
         line.serves()
         return note
@@ -125,7 +109,8 @@ def flood_of_requests(tried):
 
 @case("requests, each the next one, whose confirmations nobody acknowledges")
 def flood_of_next_requests(tried):
-    return flooded(tried, lambda channel, k: request(channel, k & 255, to_device(b"\x80")))
+    # what waits for an acknowledgement has its greatest number after some seconds
+    return flooded(tried, lambda channel, k: request(channel, k & 255, to_device(b"\x80")), least=1_000_000)
 
 
 @case("requests with every frame of 1 to 290 octets that is none")

@@ -149,7 +149,7 @@ def memory(pid, what="VmRSS"):
     return 0
 
 
-# ---- the programs
+# ---- promises
 
 class Wrong(Exception):
     """A promise that wasn't kept."""
@@ -158,6 +158,26 @@ class Wrong(Exception):
 def want(holds, what):
     if not holds:
         raise Wrong(what)
+
+
+class Level:
+    """What a program has in memory while datagrams are poured into it. What is over takes none: at the end it has at most a tenth more than after the first tenth."""
+
+    def __init__(self, pid):
+        self.pid, self.seen = pid, []
+
+    def look(self):
+        if now := memory(self.pid):
+            self.seen.append(now)
+
+    def told(self, sent):
+        self.look()
+        first, last = self.seen[len(self.seen) // 10], self.seen[-1]
+        want(last <= 1.1 * first, f"{sent} datagrams, {first >> 10} KiB of memory after the first tenth of them and {last >> 10} after the last")
+        return f"{sent} datagrams, {first >> 10} KiB of memory after the first tenth of them, {last >> 10} after the last"
+
+
+# ---- the programs
 
 
 def start(prog, *words, **how):
@@ -259,15 +279,30 @@ class Line:
                 return Client(self.port).load_states()
         raise Wrong("the load states can't be read")
 
+    def checks(self, project):
+        """Whether a check finds this project in the device; on a busy machine one may end without an answer, and is made again."""
+        for _ in range(5):
+            text, status = download(self.prog, self.port, "check:1.1.5", new=project)
+            if status == 0 or " refused " in text:
+                return status == 0
+        raise Wrong(f"a check doesn't end: {text!r} {status}")
+
     def state(self):
         """What the device runs: `old`, `new`, or `stopped`."""
         self.holds()
         if self.load_states() != [1, 1, 1, 1]:
             return "stopped"
         for case, project in (("new", NEW), ("old", OLD)):
-            if download(self.prog, self.port, "check:1.1.5", new=project)[1] == 0:
+            if self.checks(project):
                 return case
         raise Wrong("the device runs neither the old nor the new project")
+
+    def renewed(self):
+        """What the device runs; it is loaded with the old project again."""
+        state = self.state()
+        found = download(self.prog, self.port, new=OLD)
+        want(found == LOADED, f"the old project again: {found}")
+        return state
 
     def ends(self):
         """It ends by itself where a channel was made and nobody is there any more."""
@@ -415,9 +450,7 @@ class Gate:
         while not self.over.is_set():
             with contextlib.suppress(OSError):
                 octets, sender = self.sock.recvfrom(65535)
-                for it in self.answer(octets):
-                    self.sock.sendto(it, sender)
-                    self.sent += 1
+                self.sent += pour(self.sock, sender[1], self.answer(octets))
 
 
 def conversation(prog):

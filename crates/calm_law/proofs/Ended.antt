@@ -19,7 +19,7 @@ use Rattle.calm_law.proofs.JoinedRests.{devices_there}
 
 -- ---- the devices at each moment
 
-calm_drop : (start : World) (n : ℕ) (events : List Event) → AreCalm start events → AreCalm start (drop n events)
+pub calm_drop : (start : World) (n : ℕ) (events : List Event) → AreCalm start events → AreCalm start (drop n events)
 calm_drop start zero events c = c
 calm_drop start (suc n) [] c = tt
 calm_drop start (suc n) (e ∷ events) c = calm_drop start n events c.1
@@ -28,7 +28,7 @@ there_at : (start : World) (events : List Event) → AreCalm start events → (a
 there_at start [] c a h = h
 there_at start (e ∷ events) c a h = devices_there (replay start events) e c.0 a (there_at start events c.1 a h)
 
-capable_at : (start : World) (events : List Event) → IsFresh start → AreCalm start events → (a : ℕ) (d : DeviceState) → (replay start events).devices a ≡ Some d → HasCapacities d.kept
+pub capable_at : (start : World) (events : List Event) → IsFresh start → AreCalm start events → (a : ℕ) (d : DeviceState) → (replay start events).devices a ≡ Some d → HasCapacities d.kept
 capable_at start [] f c a d is = (f.devices a d is).capacities
 capable_at start (e ∷ events) f c a d is = devices_have (replay start events) e c.0 (capable_at start events f c.1) a d is
 

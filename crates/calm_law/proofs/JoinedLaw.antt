@@ -17,6 +17,7 @@ use Rattle.line_model.specs.Asks.{IsRightDeed, moment_of}
 use Rattle.line_model.specs.Calm as line
 use Rattle.line_model.specs.ClientView.{Deed, Puts, Takes, Loses, Nothing, channel, deed}
 use Rattle.line_model.specs.Ends.{IsAtRest, EndsSo, EndsAtRest, BeginsUndecided}
+use Rattle.line_model.specs.Faults.{tries}
 use Rattle.line_model.specs.Fresh.{IsFresh}
 use Rattle.line_model.specs.Haste.{KeepsPaces, LosesNoTimes, HasSent, has_just_waited}
 use Rattle.line_model.specs.Leaves.{StaysOpen}
@@ -24,7 +25,8 @@ use Rattle.line_model.specs.Legal.{OfDevice, IsLegal}
 use Rattle.line_model.specs.LinkStory.{newest_time}
 use Rattle.line_model.specs.Log.{Job, JobState, Untaken, Held, Over, job_of, turn_of, turn_place, log_before, state_of, latest, IsLog, MayFollow, OneDownloaderPerDevice}
 use Rattle.line_model.specs.Moments.{moments, between, stretches, course, session}
-use Rattle.line_model.specs.Record.{Entry, Item, Quiet, Placed, entry, entries, placed_if, placed, noted, item_of}
+use Rattle.line_model.specs.OldStoppedOrNew.{IsUntouched, RunsWhereDone, StaysDone}
+use Rattle.line_model.specs.Record.{Entry, Item, Quiet, Placed, entry, entries, placed_if, placed, noted, item_of, record_of}
 use Rattle.line_model.specs.Renews.{RenewsRightly, AcknowledgesRightly}
 use Rattle.line_model.specs.Sendings.{SendsRightly}
 use Rattle.line_model.specs.Signs.{SignsHold}
@@ -33,6 +35,7 @@ use Rattle.line_model.specs.Tunnel as tunnel
 use Rattle.line_model.specs.Tunnel.{Tunnel, TunnelEvent, Commissions}
 use Rattle.line_model.specs.Undisturbed.{HasDevices, IsServedJob, IsIdle, IsIdleAt, PassesIdly, FailsNot, NothingFailed, IsPrompt, world_at, RefusesSo, RefusesRightly}
 use Rattle.line_model.specs.World.{World, Event, Send, From, Renew, Up, UpRefused, Down, LoseUp, LoseDown, Bus, BusTorn, BusWorn, BusAgain, DevSend, DevRepeat, DevClose, GwAgain, GwRepeat, GwClose, Cut, On, Pass, me, tunnel_event, step, replay}
+use Rattle.line_model.proofs.Entries.{entries_placed}
 use Rattle.line_law.specs.Safe.{EachAsked}
 use Rattle.line_law.proofs.Coupled.{Owned}
 use Rattle.tunnel_law.proofs.Inside.{Every}
@@ -45,7 +48,7 @@ use Rattle.calm_law.proofs.State.{lives_over, Ridden, ridden}
 use Rattle.calm_law.proofs.Sends.{MayDo}
 use Rattle.calm_law.proofs.Law.{Inv, May, Keeps, may_of, idle_of, lives_rides, kept_of}
 use Rattle.calm_law.proofs.Ends.{parted_pass}
-use Rattle.calm_law.proofs.OnLine.{owned, event_calm}
+use Rattle.calm_law.proofs.OnLine.{owned, event_calm, none_fails_on_line}
 use Rattle.calm_law.proofs.Joined.{step_now, fresh_before}
 use Rattle.calm_law.proofs.Held.{HeldJob, before_in, held_before, after, AreUpto, moments_upto, upto_next, first_moments, all_before, next_moment}
 use Rattle.calm_law.proofs.Finished.{asked_or_not, WhereAsked, asked_more, finished_stays, none_held, none_next, signs_not, NotLost, lost_after, put_not_lost, lost_deed, none_between}
@@ -55,7 +58,9 @@ use Rattle.calm_law.proofs.JoinedTime.{few_began, none_began}
 use Rattle.calm_law.proofs.Logged.{ends_at_rest, entry_whole}
 use Rattle.calm_law.proofs.Refused.{refused_not}
 use Rattle.calm_law.proofs.Ended.{end_well}
+use Rattle.calm_law.specs.CalmChecks.{ChecksExactly, HaveOneImage, IsAnsweredRightly}
 use Rattle.calm_law.specs.CalmEnds.{EndWell}
+use Rattle.calm_law.proofs.Checked.{checks_exactly}
 use Rattle.calm_law.proofs.Rows.{Devices, Willing}
 use Rattle.calm_law.proofs.Books.{tried}
 use Rattle.calm_law.proofs.JoinedEvents.{MayPutSo}
@@ -504,3 +509,14 @@ module _ (jobs : List Job) (turns : List GroupTurn) (start : World) (events : Li
 
   pub ends_well : EndWell jobs log
   ends_well = end_well jobs turns start events client.safe.fresh calm (on_line_of jobs start devices) (length events) log client.safe.safe.form both.0.nothing_failed both.1
+
+  -- no try to get a channel fails
+  pub no_try_fails : tries (record_of start events) ≡ []
+  no_try_fails =
+      let safe = client.safe.safe in
+      let so : IsSo jobs turns log (placed start events) = record { renews = safe.renews; sends = safe.sends; acknowledges = client.acknowledges; hastens = client.hastens; asks = safe.asks; begins = client.begins } in
+      none_fails_on_line start events client.safe.fresh client.safe.legal calm (are_short start events client.safe.fresh values calm) (subst Keeps (entries_placed start events) (keeps jobs turns log (placed start events) so))
+
+  pub checks_right : IsUntouched jobs start events log → StaysDone jobs start events log → RunsWhereDone jobs start events log → AllByRecursion IsAnsweredRightly jobs → HaveOneImage jobs → ChecksExactly jobs start log
+  checks_right untouched stays done answered one_image =
+      checks_exactly jobs turns start events log client.safe.fresh calm (on_line_of jobs start devices) client.safe.safe.form client.safe.safe.alone both.0.nothing_failed both.1 untouched stays done (each_job IsAnsweredRightly jobs answered) one_image

@@ -12,6 +12,7 @@ pub mod Events
 pub mod Confirmations
 pub mod Ends
 pub mod Law
+pub mod Tries
 pub mod Scripts
 pub mod Phases
 pub mod Books
@@ -38,6 +39,8 @@ pub mod JoinedTime
 pub mod Logged
 pub mod Refused
 pub mod Ended
+pub mod LogParts
+pub mod Checked
 pub mod JoinedLine
 pub mod JoinedSteps
 pub mod JoinedAlways

@@ -8,6 +8,7 @@ use Rattle.line_model.specs.Fresh.{IsFresh}
 use Rattle.line_model.specs.Legal.{IsLegal}
 use Rattle.line_model.specs.Record.{Entry, record_of, tunnel_record}
 use Rattle.line_model.specs.ClientView.{channel}
+use Rattle.line_model.specs.Faults.{tries}
 use Rattle.line_model.specs.Undisturbed.{AwaitsNothing}
 use Rattle.line_model.specs.Tunnel as tunnel
 use Rattle.line_model.specs.Tunnel.{Tunnel, TunnelEvent, Commissions, fresh}
@@ -21,6 +22,7 @@ use Rattle.calm_law.specs.CalmTunnel.{Confirms, IsIndication, PutsRightly, Passe
 use Rattle.calm_law.specs.CalmLine.{ChannelIdles, PassesIdlyOnLine}
 use Rattle.calm_law.proofs.Short.{IsShort, SendsShort, AreShort}
 use Rattle.calm_law.proofs.Law.{Keeps, idly, kept}
+use Rattle.calm_law.proofs.Tries.{none_fails}
 
 -- ---- each event
 
@@ -110,6 +112,11 @@ module _ (start : World) (events : List Event) (f : IsFresh start) (l : IsLegal 
   idly_on_line =
       let P : Tunnel → Type 0 = λ t. PassesIdly t (tunnel_events start events) in
       passes start events (subst P (sym f.tunnel) (idly (me start) (tunnel_events start events) it.0 it.1 it.2))
+
+  pub none_fails_on_line : tries (record_of start events) ≡ []
+  none_fails_on_line =
+      let P : Tunnel → Type 0 = λ t. tries (tunnel_record t (tunnel_events start events)) ≡ [] in
+      subst (λ (r : List Entry). tries r ≡ []) (sym (records start events)) (subst P (sym f.tunnel) (none_fails (me start) (tunnel_events start events) it.0 it.1 it.2))
 
   pub kept_on_line : KeepsItsChannel (record_of start events)
   kept_on_line =

@@ -4,3 +4,4 @@ pub mod CalmRun
 pub mod CalmJobs
 pub mod CalmSession
 pub mod CalmEnds
+pub mod CalmChecks

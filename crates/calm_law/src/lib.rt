@@ -1,7 +1,7 @@
 //! The law of undisturbed lines: where nothing is lost and the client loses no time, time passes only where nothing is awaited, and nothing fails.
 #![tactic(auto)]
 
-ghost use Rattle.std.specs.Prelude.{ℕ, List, [], ◌∷◌};
+ghost use Rattle.std.specs.Prelude.{◌≡◌, ℕ, List, [], ◌∷◌};
 ghost use Rattle.std.specs.List.{AllByRecursion};
 ghost use Rattle.knx_model.specs.declared.address.IndAddr.{IndAddr as Address};
 ghost use Rattle.line_model.specs.Haste.{KeepsPaces};
@@ -13,6 +13,7 @@ ghost use Rattle.line_model.specs.Runs.{begin, job};
 ghost use Rattle.calm_law.specs.CalmSession.{calm_session, told};
 ghost use Rattle.line_model.specs.Tunnel.{TunnelEvent, Commissions, fresh, IsLegal};
 ghost use Rattle.line_model.specs.Calm.{AreCalm as AreCalmEvents};
+ghost use Rattle.line_model.specs.Faults.{tries};
 ghost use Rattle.line_model.specs.Follows.{Follows};
 ghost use Rattle.line_model.specs.Fresh.{IsFresh};
 ghost use Rattle.line_model.specs.Legal.{IsLegal as IsLegalOnLine};
@@ -26,6 +27,8 @@ ghost use Rattle.calm_law.specs.CalmTunnel.{AreCalm, PutsRightly, PassesIdly, Ke
 ghost use Rattle.calm_law.specs.CalmRun.{gateway, calm_run};
 ghost use Rattle.calm_law.specs.CalmLine.{HaveShortValues, PassesIdlyOnLine};
 ghost use Rattle.calm_law.specs.CalmEnds.{EndWell};
+ghost use Rattle.calm_law.specs.CalmChecks.{ChecksExactly, HaveOneImage, IsAnsweredRightly};
+ghost use Rattle.line_model.specs.OldStoppedOrNew.{IsUntouched, RunsWhereDone, StaysDone};
 ghost use Rattle.calm_law.specs.CalmJobs.{HavePower, IsPromptClient};
 
 /// In a calm tunnel, over every order of its events, time passes only where nothing is awaited: no connect request, tunnelling request or heartbeat
@@ -74,7 +77,7 @@ pub fn undisturbing_scripts_are_calm()
 /// there and serve their plans, time passes only where nothing is awaited and no job that is held has begun; and no job fails and no group telegram
 /// is lost. So it is over every order of the events, with any number of workers. A job is refused only where its device, with what it kept when the
 /// job was taken, doesn't answer the whole plan as wanted. So each job that is over was told done or refused, and one that a device answers wholly,
-/// whatever it keeps, was told done.
+/// whatever it keeps, was told done. And no try to get a channel fails.
 pub fn nothing_fails_on_a_calm_line()
     ensures prompt { (jobs : List Job) (turns : List GroupTurn) (start : World) (events : List Event) (log : List LogEntry) → AllByRecursion IsServedJob jobs → HasDevices jobs start → HavePower start
         → IsPromptClient jobs turns start events log → AreCalmEvents start events → HaveShortValues start → IsPrompt jobs start log events }
@@ -82,9 +85,19 @@ pub fn nothing_fails_on_a_calm_line()
         → IsPromptClient jobs turns start events log → AreCalmEvents start events → HaveShortValues start → RefusesRightly jobs start events log }
     ensures ended { (jobs : List Job) (turns : List GroupTurn) (start : World) (events : List Event) (log : List LogEntry) → AllByRecursion IsServedJob jobs → HasDevices jobs start → HavePower start
         → IsPromptClient jobs turns start events log → AreCalmEvents start events → HaveShortValues start → EndWell jobs log }
+    ensures reached { (jobs : List Job) (turns : List GroupTurn) (start : World) (events : List Event) (log : List LogEntry) → AllByRecursion IsServedJob jobs → HasDevices jobs start → HavePower start
+        → IsPromptClient jobs turns start events log → AreCalmEvents start events → HaveShortValues start → tries (record_of start events) ≡ [] }
 {}
 
-/// The same of a run that follows a script which disturbs nothing, whichever it is.
+/// On such a line each check that is over was told done exactly where a job before it loads its device, or its device began with the image, and else it was told
+/// refused: if each device answers each load wholly, and each check of the image that it runs, and the jobs of a device have one image. That a device is
+/// untouched before its first load is taken and stays as it is from `done` on, and that what was told done runs, is what the line's law says of good jobs.
+pub fn each_check_is_exact()
+    ensures { (jobs : List Job) (turns : List GroupTurn) (start : World) (events : List Event) (log : List LogEntry) → AllByRecursion IsServedJob jobs → HasDevices jobs start → HavePower start → IsPromptClient jobs turns start events log → AreCalmEvents start events
+        → HaveShortValues start → IsUntouched jobs start events log → StaysDone jobs start events log → RunsWhereDone jobs start events log → AllByRecursion IsAnsweredRightly jobs → HaveOneImage jobs → ChecksExactly jobs start log }
+{}
+
+/// What the law of calm lines says, of a run that follows a script which disturbs nothing, whichever it is.
 pub fn undisturbed_runs_are_prompt()
     ensures prompt { (jobs : List Job) (turns : List GroupTurn) (start : World) (events : List Event) (log : List LogEntry) → HavePower start → IsPromptClient jobs turns start events log → HaveShortValues start → PromptWhereUndisturbed jobs start log events }
     ensures refuses { (jobs : List Job) (turns : List GroupTurn) (start : World) (events : List Event) (log : List LogEntry) (script : Script) → IsUndisturbedRun script jobs start events → HavePower start → IsPromptClient jobs turns start events log → HaveShortValues start

@@ -6,3 +6,4 @@ pub mod Rounds
 pub mod Refused
 pub mod Named
 pub mod Told
+pub mod Answered

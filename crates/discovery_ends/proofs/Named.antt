@@ -1,13 +1,12 @@
 -- The own address and port in a datagram, and in the record.
-use Rattle.std.proofs.Common.{◌≡◌, ◌≤◌, ◌⊎◌, ◌+◌, ◌-◌, ℕ, Bool, true, false, List, [], ◌∷◌, ◌++◌, length, take, drop, map, refl, sym, ap, ◌∙◌, subst, Option, Some, None, inl, inr, arith}
-use Rattle.std.specs.Prelude.{if◌then◌else◌, nat_le, OnErr, OnOk, Result, Ok, Err}
+use Rattle.std.proofs.Common.{◌≡◌, ◌≤◌, ◌⊎◌, ◌+◌, ◌-◌, ℕ, Bool, true, false, List, ◌++◌, length, take, drop, map, refl, sym, ap, ◌∙◌, subst, Option, Some, None, inl, inr, arith}
+use Rattle.std.specs.Prelude.{if◌then◌else◌, OnErr, OnOk, Result, Ok, Err}
 use Rattle.std.specs.Str.{bytes_eq}
 use Rattle.std.proofs.lemmas.Slice.Eq.{bytes_eq-Decides}
 use Rattle.std.proofs.lemmas.Bool.{and_parts, leb-true}
 use Rattle.std.proofs.lemmas.List.{length-append, length-drop, length-take-le, take-append-drop, take-append-le}
 use Rattle.std.proofs.Math.Seq.{drop-append_seam, take-append_seam}
 use Rattle.line_model.specs.PortStory.{PortItem, Took, Quiet, Gave, PortStory, Untold, Recorded, Adds, GivesOrNot}
-use Rattle.discovery_ends.specs.Answering.{NoneOpen, is_open}
 use Rattle.discovery_ends.specs.Naming.{connect_response, exchanged, exchanged_at, has_place, named, named_item, named_story, named_where, nowhere, place_in, search_response}
 
 -- ---- exchanged twice is as before
@@ -161,17 +160,6 @@ gave_named own to octets before after six h =
 pub gave_or_not_named : (own : List ℕ) (to : ℕ) (octets : List ℕ) (before after : PortStory) → length own ≡ 6 → GivesOrNot to (named own octets) before after → GivesOrNot to octets (named_story own before) (named_story own after)
 gave_or_not_named own to octets before after six (inl h) = inl (gave_named own to octets before after six h)
 gave_or_not_named own to octets before after six (inr h) = inr (ap (named_story own) h)
-
--- no request is opened by it
-none_in_named : (own : List ℕ) (items : List PortItem) → is_open items ≡ false → is_open (map (named_item own) items) ≡ false
-none_in_named own [] e = refl
-none_in_named own (Took from octets ∷ older) e = e
-none_in_named own (Quiet ms ∷ older) e = refl
-none_in_named own (Gave to octets ∷ older) e = refl
-
-pub none_open_named : (own : List ℕ) (story : PortStory) → NoneOpen story → NoneOpen (named_story own story)
-none_open_named own Untold h = tt
-none_open_named own (Recorded items) h = none_in_named own items h
 
 -- the answers of a giving
 pub given_named : {T E : Type 0} (r : Result T E) (own : List ℕ) (to : ℕ) (octets : List ℕ) (before after : PortStory) → length own ≡ 6 → OnOk r (Adds (Gave to (named own octets)) before after)

@@ -8,7 +8,24 @@ use Rattle.line_model.specs.declared.outside.port.PortFault.{PortFault}
 use Rattle.line_model.specs.PortStory.{PortItem, Took, Quiet, Gave, PortStory, Untold, Recorded, Adds, GivesOrNot}
 use Rattle.discovery.specs.declared.about.About.{About}
 use Rattle.discovery.specs.declared.inquiry.Inquiry.{Inquiry}
-use Rattle.discovery_ends.specs.Answering.{request_in, answer_of, is_answer_to, is_answer, shown, without_last, shown_story, is_open, NoneOpen}
+use Rattle.discovery_ends.specs.Answering.{HasNoRequest, request_in, answer_of, is_answer_to, is_answer, shown, without_last, shown_story}
+
+-- ---- no request is open: the newest item of the record is none
+
+abbrev is_open : List PortItem → Bool
+is_open (Took from octets ∷ older) = is_some (request_in octets)
+is_open items = false
+
+abbrev pub NoneOpen : PortStory → Type 0
+NoneOpen Untold = Unit {0}
+NoneOpen (Recorded items) = is_open items ≡ false
+
+pub none_open : (about : About) (story : PortStory) → HasNoRequest (shown_story about None story) → NoneOpen story
+none_open about Untold h = tt
+none_open about (Recorded []) h = refl
+none_open about (Recorded (Took from octets ∷ older)) h = ap is_some h.0
+none_open about (Recorded (Quiet ms ∷ older)) h = refl
+none_open about (Recorded (Gave to octets ∷ older)) h = refl
 
 -- ---- one item more
 

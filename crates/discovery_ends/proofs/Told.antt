@@ -1,13 +1,13 @@
 -- The record of an answerer, behind what the gateway names and tells: with one item more, and that who lets it grow keeps both.
-use Rattle.std.proofs.Common.{◌≡◌, inl, inr, ℕ, List, [], ◌∷◌, ◌++◌, refl, sym, ap, ◌∙◌, subst, Option, Some, None, Result, Ok, Err}
+use Rattle.std.proofs.Common.{◌≡◌, inl, inr, ℕ, List, ◌++◌, ap, Option, Some, None, Result, Ok, Err}
 use Rattle.std.specs.Prelude.{OnErr, OnOk}
 use Rattle.line_model.specs.declared.outside.port.PortFault.{PortFault}
 use Rattle.line_model.specs.declared.outside.port.PortPolled.{PortPolled}
 use Rattle.line_model.specs.declared.outside.port.PortPolled.TheVariants as answer
-use Rattle.line_model.specs.PortStory.{PortItem, Took, Quiet, Gave, PortStory, Untold, Recorded, Adds, GivesOrNot, TakesSo}
+use Rattle.line_model.specs.PortStory.{PortItem, Quiet, Gave, PortStory, Untold, Recorded, Adds, GivesOrNot, TakesSo}
 use Rattle.discovery.specs.declared.about.About.{About}
-use Rattle.discovery_ends.proofs.Shown.{gave_shown, gave_or_not_shown}
-use Rattle.discovery_ends.specs.Answering.{AllAnswered, NoneOpen, answerer_story, behind, identity, shown_story}
+use Rattle.discovery_ends.proofs.Shown.{NoneOpen, gave_shown, none_open}
+use Rattle.discovery_ends.specs.Answering.{AllAnswered, answerer_story, behind, identity, shown_story}
 use Rattle.discovery_ends.specs.Naming.{named_story}
 
 adds_told : (first : List PortItem) (item : PortItem) (before after : PortStory) → Adds item before after → Adds item (behind first before) (behind first after)
@@ -30,18 +30,18 @@ gave_or_not_told first about to octets before after none (inl h) = inl (gave_tol
 gave_or_not_told first about to octets before after none (inr h) = inr (ap (λ (s : PortStory). behind first (shown_story about None s)) h)
 
 -- the answers of a giving, where no answer has failed
-pub given_told : {T E : Type 0} (r : Result T E) (own own' : List ℕ) (about : About) (failed : Option PortFault) (to : ℕ) (octets : List ℕ) (before after : PortStory) → own' ≡ own → failed ≡ None → AllAnswered failed (named_story own before)
+pub given_told : {T E : Type 0} (r : Result T E) (own own' : List ℕ) (about : About) (failed : Option PortFault) (to : ℕ) (octets : List ℕ) (before after : PortStory) → own' ≡ own → failed ≡ None → AllAnswered about failed (named_story own before)
     → OnOk r (Adds (Gave to octets) (named_story own before) (named_story own' after)) → OnOk r (Adds (Gave to octets) (answerer_story own about failed before) (answerer_story own' about failed after))
 given_told (Ok x) own own' about None to octets before after same stands none h =
-    rw same (gave_told (identity own about) about to octets (named_story own before) (named_story own after) none (rw same at h))
+    rw same (gave_told (identity own about) about to octets (named_story own before) (named_story own after) (none_open about (named_story own before) none) (rw same at h))
 given_told (Ok x) own own' about (Some fault) to octets before after same stands none h = absurd (let e : Some fault ≡ None = stands in cc)
 given_told (Err e) own own' about failed to octets before after same stands none h = h
 
-pub not_given_told : {T E : Type 0} (r : Result T E) (own own' : List ℕ) (about : About) (failed : Option PortFault) (to : ℕ) (octets : List ℕ) (before after : PortStory) → own' ≡ own → failed ≡ None → AllAnswered failed (named_story own before)
+pub not_given_told : {T E : Type 0} (r : Result T E) (own own' : List ℕ) (about : About) (failed : Option PortFault) (to : ℕ) (octets : List ℕ) (before after : PortStory) → own' ≡ own → failed ≡ None → AllAnswered about failed (named_story own before)
     → OnErr r (GivesOrNot to octets (named_story own before) (named_story own' after)) → OnErr r (GivesOrNot to octets (answerer_story own about failed before) (answerer_story own' about failed after))
 not_given_told (Ok x) own own' about failed to octets before after same stands none h = h
 not_given_told (Err e) own own' about None to octets before after same stands none h =
-    rw same (gave_or_not_told (identity own about) about to octets (named_story own before) (named_story own after) none (rw same at h))
+    rw same (gave_or_not_told (identity own about) about to octets (named_story own before) (named_story own after) (none_open about (named_story own before) none) (rw same at h))
 not_given_told (Err e) own own' about (Some fault) to octets before after same stands none h = absurd (let q : Some fault ≡ None = stands in cc)
 
 pub not_told : {T E : Type 0} (r : Result T E) (to : ℕ) (octets : List ℕ) (before after : PortStory) → after ≡ before → OnErr r (GivesOrNot to octets before after)

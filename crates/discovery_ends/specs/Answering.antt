@@ -1,13 +1,14 @@
 -- A gateway's port at which requests of discovery are answered (ISO 22510, Core, search and self description). By the record of the port below it,
 -- each answered request stands as a datagram without octets, and its answer is left out. Once an answer has failed nothing more is done at
 -- the port below; the last request, and its answer where that went out nevertheless, are left out then.
-use Rattle.std.specs.Prelude.{◌≡◌, ℕ, ◌+◌, ◌<◌, ◌≤◌, Bool, false, ◌&&◌, ◌==◌, min, List, [], ◌∷◌, ◌++◌, length, drop, Option, Some, None, is_some, if◌then◌else◌}
+use Rattle.std.specs.Prelude.{◌≡◌, ℕ, ◌+◌, ◌<◌, ◌≤◌, Bool, false, ◌&&◌, ◌==◌, min, List, [], ◌∷◌, ◌++◌, length, drop, Option, Some, None, if◌then◌else◌}
+use Rattle.std.specs.List.{AllByRecursion}
 use Rattle.std.specs.Str.{bytes_eq}
 use Rattle.knx_model.specs.Octets.{word_at}
 use Rattle.knx_model.specs.Outside.{greatest_count, one_more}
 use Rattle.line_model.specs.declared.outside.port.PortFault.{PortFault}
 use Rattle.line_model.specs.declared.outside.port.PortFault.TheVariants as fault
-use Rattle.line_model.specs.PortStory.{PortItem, Took, Gave, PortStory, Untold, Recorded, Adds, GivesOrNot}
+use Rattle.line_model.specs.PortStory.{PortItem, Took, Quiet, Gave, PortStory, Untold, Recorded, Adds, GivesOrNot}
 use Rattle.line_model.specs.Reading.{has_header, has_endpoint}
 use Rattle.discovery.specs.declared.about.About.{About}
 use Rattle.discovery.specs.declared.inquiry.Inquiry.{Inquiry}
@@ -81,20 +82,21 @@ behind first (Recorded items) = Recorded (items ++ first)
 abbrev pub answerer_story : List ℕ → About → Option PortFault → PortStory → PortStory
 answerer_story own about failed below = behind (identity own about) (shown_story about failed (named_story own below))
 
--- ---- no request is open: the newest item of the record is none
+-- ---- each request is answered at once, before anything else is done at the port below: so none is left in what is shown
 
-abbrev pub is_open : List PortItem → Bool
-is_open (Took from octets ∷ older) = is_some (request_in octets)
-is_open items = false
+-- a datagram that was taken is no request
+abbrev pub IsntRequest : PortItem → Type 0
+IsntRequest (Took from octets) = request_in octets ≡ None
+IsntRequest (Quiet ms) = Unit {0}
+IsntRequest (Gave to octets) = Unit {0}
 
-abbrev pub NoneOpen : PortStory → Type 0
-NoneOpen Untold = Unit {0}
-NoneOpen (Recorded items) = is_open items ≡ false
+abbrev pub HasNoRequest : PortStory → Type 0
+HasNoRequest Untold = Unit {0}
+HasNoRequest (Recorded items) = AllByRecursion IsntRequest items
 
--- each request was answered at once, unless an answer failed
-abbrev pub AllAnswered : Option PortFault → PortStory → Type 0
-AllAnswered None story = NoneOpen story
-AllAnswered (Some kept) story = Unit {0}
+-- each was answered, but the last where its answer failed so
+abbrev pub AllAnswered : About → Option PortFault → PortStory → Type 0
+AllAnswered about failed story = HasNoRequest (shown_story about failed story)
 
 -- ---- how a taking fails
 
@@ -133,7 +135,7 @@ refused_for fault.Failed refused = one_more refused
 -- what is kept of the gateway, and of the port below and its count of failed calls
 pub record Keeps (about : About) (failed : Option PortFault) (refused below : ℕ) (story : PortStory) : Type 0 where
   pub few : length about.families ≤ 64
-  pub answered : AllAnswered failed story
+  pub answered : AllAnswered about failed story
   -- a call of the port below failed where an answer found that, and where a call was refused for it
   pub broke : failed ≡ Some fault.Failed → 0 < below
   pub refuses : 0 < refused → 0 < below

@@ -2,8 +2,9 @@
 
 ghost use Rattle.std.specs.Prelude.{◌≡◌, ◌<◌, ◌≤◌, Err, IfErr, None, OnErr, OnOk, Some, length};
 ghost use Rattle.line_model.specs.declared.outside.port.PortFault.{PortFault as Fault};
+ghost use Rattle.line_model.specs.declared.outside.port.PortFault.TheVariants.{Failed as Broke};
 ghost use Rattle.line_model.specs.PortStory.{Adds, FailsWhere, Gave, GivesOrNot, TakesSo};
-ghost use Rattle.discovery_ends.specs.Answering.{AllAnswered, FailsFor, NoneOpen, answer_of, answerer_story, faults_with, refused_for, shown_story};
+ghost use Rattle.discovery_ends.specs.Answering.{AllAnswered, FailsFor, HasNoRequest, answer_of, answerer_story, faults_with, refused_for, shown_story};
 ghost use Rattle.discovery_ends.specs.Naming.{named_story};
 
 use crate::naming::NamedPort;
@@ -38,11 +39,11 @@ impl<P: Port> Model for Answerer<P> {
 
 impl<P: Port> Answerer<P> {
     /// Answers at a port for a gateway that is bound to the address (4) and port number (2) of these octets and tells this of itself, with at most
-    /// 64 service families. What was taken last at the port is no request.
-    #[tactic(auto, using(crate::proofs::Named::none_open_named))]
+    /// 64 service families. What was taken at the port before is no request.
+    #[tactic(auto, using(crate::proofs::Answered::none_at_first))]
     pub fn new(port: P, own: [u8; 6], about: About) -> Answerer<P>
         requires few { length about.families ≤ 64 }
-        requires none_open { NoneOpen (P.story port) }
+        requires none { HasNoRequest (P.story port) }
         ensures { result ≡ record { port = record { port = port; own = own }; about = about; failed = None; refused = 0 } }
     {
         Answerer {
@@ -56,6 +57,9 @@ impl<P: Port> Answerer<P> {
     /// The port, once no more is to be answered.
     pub fn back(self) -> P
         ensures port { result ≡ self.port.port }
+        // each request was answered at once, but the last where its answer failed; and then a call of this port failed, or memory was wanting
+        ensures answered { AllAnswered self.about self.failed (named_story self.port.own (P.story result)) }
+        ensures broke { self.failed ≡ Some Broke → 0 < P.faults result }
         // of calls that were refused there is one of this port that failed
         ensures refused { 0 < self.refused → 0 < P.faults result }
     {
@@ -79,6 +83,7 @@ impl<P: Port> Answerer<P> {
     fn begin(&mut self) -> Result<(), PortFault>
         ensures ok { OnOk result ((self.new ≡ self.old) × (self.old.failed ≡ None)) }
         ensures err { IfErr result (λ fault. (self.old.failed ≡ Some fault) × (self.new ≡ record self.old { refused = refused_for fault self.old.refused })) }
+        ensures answered { AllAnswered self.new.about self.new.failed (named_story self.new.port.own (P.story self.new.port.port)) }
     {
         if let Some(fault) = self.failed {
             self.refused = refused_for(&fault, self.refused);
@@ -137,9 +142,9 @@ fn taken<P: Port>(
 ) -> Result<PortPolled, PortFault>
     requires few { length about.now.families ≤ 64 }
     requires stands { failed.old ≡ None }
-    requires none_open { NoneOpen (named_story port.old.own (P.story port.old.port)) }
+    requires answered { AllAnswered about.now None (named_story port.old.own (P.story port.old.port)) }
     ensures taken { TakesSo result into.new wait_ms (shown_story about.now None (named_story port.old.own (P.story port.old.port))) (shown_story about.now failed.new (named_story port.new.own (P.story port.new.port))) }
-    ensures answered { AllAnswered failed.new (named_story port.new.own (P.story port.new.port)) }
+    ensures answered { AllAnswered about.now failed.new (named_story port.new.own (P.story port.new.port)) }
     ensures broken { IfErr result (λ fault. FailsFor fault about.now failed.new (named_story port.old.own (P.story port.old.port)) (named_story port.new.own (P.story port.new.port))) }
     ensures stands { OnOk result (failed.new ≡ None) }
     ensures cause { FailsWhere result (P.faults port.old.port) (P.faults port.new.port) }
@@ -175,7 +180,7 @@ impl<P: Port> Port for Answerer<P> {
         ensures about { self.new.about ≡ self.old.about }
         // it fails only where the other port does; once an answer has failed, with that fault, and then nothing is done
         ensures below { self.old.failed ≡ None → FailsWhere result (P.faults self.old.port.port) (P.faults self.new.port.port) }
-        ensures answered { AllAnswered self.new.failed (named_story self.new.port.own (P.story self.new.port.port)) }
+        ensures answered { AllAnswered self.new.about self.new.failed (named_story self.new.port.own (P.story self.new.port.port)) }
         ensures broken { self.old.failed ≡ None → IfErr result (λ fault. FailsFor fault self.old.about self.new.failed (named_story self.old.port.own (P.story self.old.port.port)) (named_story self.new.port.own (P.story self.new.port.port))) }
         ensures stands { OnOk result ((self.old.failed ≡ None) × (self.new.failed ≡ None)) }
         ensures refused { (fault : Fault) → self.old.failed ≡ Some fault → (result ≡ Err fault) × (self.new ≡ record self.old { refused = refused_for fault self.old.refused }) }

@@ -2,18 +2,19 @@
 use Rattle.std.proofs.Common.{◌≡◌, ℕ, false, List, [], map, Option, Some, None, refl, sym, ap, subst, ◌∙◌, arith}
 use Rattle.line_model.specs.declared.fault.HubFault.{HubFault}
 use Rattle.line_model.specs.declared.log.LogEntry.{LogEntry}
-use Rattle.line_model.specs.Record.{Placed, placed, counted}
+use Rattle.line_model.specs.Record.{Placed, entries, placed, counted}
 use Rattle.line_model.specs.LinkStory.{Story, Untold, Recorded, Full, places_in, IsNewLink}
 use Rattle.line_model.specs.Log.{Job, IsLog}
 use Rattle.line_model.specs.Told.{ToldTruly}
 use Rattle.line_model.specs.Ends.{EndsAtRest}
+use Rattle.line_model.specs.Leaves.{StaysOpen}
 use Rattle.tunnel_link.specs.Adds.{place_of}
 use Rattle.hub_work.specs.declared.job.HubJob.{HubJob}
 use Rattle.hub_work.specs.declared.work.Work.{Work}
 use Rattle.hub_work.specs.Downloaders.{Task, AreJobsWith, task_of_hub_job}
 use Rattle.hub_work.specs.Follows.{BeginsRightly}
 use Rattle.hub_work.specs.Works.{KeepsBooks, tasks}
-use Rattle.hub_core.specs.Discipline.{EachSo, IsPrompt, TellsAndAsks}
+use Rattle.hub_core.specs.Discipline.{EachSo, Hastens, TellsAndAsks}
 use Rattle.hub_core.specs.Keeps.{KeepsTold, Keeps}
 use Rattle.hub_core.proofs.Calls.{not_none}
 use Rattle.hub_core.proofs.Counting.{some_is}
@@ -37,7 +38,8 @@ begins p s w f hub_jobs none new books empty are unbegun fits = record {
   books = books p;
   jobs_are = λ jobs of. (fits jobs 0 0 (back jobs of)).devices;
   closes = λ begun. absurd (begun unbegun);
-  prompt = λ jobs of places e. subst (EachSo (IsPrompt jobs w.telegrams.turns) w.journal.entries) (sym (no_places s places new e)) tt;
+  stays = λ stands isnt places e. subst (λ (l : List Placed). StaysOpen (entries l)) (sym (no_places s places new e)) tt;
+  hastens = λ jobs of places e. subst (EachSo (Hastens jobs w.telegrams.turns) w.journal.entries) (sym (no_places s places new e)) tt;
   told = λ jobs of places e. subst (λ (l : List Placed). KeepsTold jobs w false f (place_of s) l) (sym (no_places s places new e)) (record {
     books = books (place_of s);
     tells = nothing_told jobs w (place_of s) w.journal.entries empty;

@@ -18,7 +18,7 @@ use Rattle.hub_work.specs.Follows.{AsideFollows, StaysFitting}
 use Rattle.hub_core.specs.Keeps.{HasOwnCause, Keeps}
 use Rattle.hub_core.specs.Taking.{SameWork, FollowsAll, LosesIn}
 use Rattle.hub_core.proofs.Counting.{some_is, place_grows, places_ascend}
-use Rattle.hub_core.proofs.Keeps.{books_same, same_log, Tolds, Prompts, moves}
+use Rattle.hub_core.proofs.Keeps.{books_same, same_log, Tolds, HastensOn, Opens, moves}
 use Rattle.hub_core.proofs.Quiet.{Asides, nothing_aside, asides_fit, fits_after, quiet_told, quiet_runs}
 use Rattle.hub_core.proofs.Requests.{nothings_put}
 use Rattle.hub_core.proofs.Taking.{NoneGot, sent_not_got}
@@ -69,36 +69,40 @@ module _ (s t : Story) (w v : Work) (met : Bool) (P : List Placed → List Place
 -- ---- each of them, all that is kept
 
 module _ (p q : ℕ) (s t : Story) (met : Bool) (f g : Option HubFault) (none : f ≡ None) (le : p ≤ q) (goes : GoesOn s t) where
-  pub acts_failed : (w : Work) (fault : HubFault) → Growing (Acts (Err fault)) s t → g ≡ Some fault → IsOfTunnel fault → Prompts s t w → Keeps p s w met f → Keeps q t w met g
-  acts_failed w fault adds is tunnel prompts k =
-      moves p q s t w w met met f g none le (same_refl w) goes (failed s t w w met (Acts (Err fault)) goes (same_refl w) adds (λ old added h. nothings_put (moments_on old added) h) met g fault is tunnel) prompts k
+  -- one that failed
+  opens_not : (w v : Work) (fault : HubFault) → g ≡ Some fault → Opens s t w v g
+  opens_not w v fault is stands asked = absurd (not_none g fault is stands)
 
-  pub acts_done : (w v : Work) (acted : Acted) (now : ℕ) → Growing (Acts (Ok acted)) s t → g ≡ None → SameWork w v → StaysFitting → LosesIn acted.loss now w v → WhereTold (λ places. now ≡ newest_time (entries places)) t → Prompts s t w → Keeps p s w met f → Keeps q t v met g
-  acts_done w v acted now adds stands same law loses told prompts k =
+  pub acts_failed : (w : Work) (fault : HubFault) → Growing (Acts (Err fault)) s t → g ≡ Some fault → IsOfTunnel fault → HastensOn s t w → Keeps p s w met f → Keeps q t w met g
+  acts_failed w fault adds is tunnel hastens k =
+      moves p q s t w w met met f g none le (same_refl w) goes (failed s t w w met (Acts (Err fault)) goes (same_refl w) adds (λ old added h. nothings_put (moments_on old added) h) met g fault is tunnel) hastens (opens_not w w fault is) k
+
+  pub acts_done : (w v : Work) (acted : Acted) (now : ℕ) → Growing (Acts (Ok acted)) s t → g ≡ None → SameWork w v → StaysFitting → LosesIn acted.loss now w v → WhereTold (λ places. now ≡ newest_time (entries places)) t → HastensOn s t w → Opens s t w v g → Keeps p s w met f → Keeps q t v met g
+  acts_done w v acted now adds stands same law loses told hastens opens k =
       moves p q s t w v met met f g none le same goes
-      (quiet s t w v met (Acts (Ok acted)) goes same adds now law told (λ old added h. (h.0, sent_not_got added h.1.only_sends, subst (λ (x : Loss). LosesIn x now w v) h.1.loss loses)) g stands) prompts k
+      (quiet s t w v met (Acts (Ok acted)) goes same adds now law told (λ old added h. (h.0, sent_not_got added h.1.only_sends, subst (λ (x : Loss). LosesIn x now w v) h.1.loss loses)) g stands) hastens opens k
 
   pub seeks_kept : (w : Work) (result : Result Bool HubFault) (now : ℕ) → Growing (Seeks result) s t → IfErr result (λ fault. g ≡ Some fault) → OnOk result (g ≡ None) → IfErr result IsOfTunnel → StaysFitting → AsideFollows
-      → WhereTold (λ places. now ≡ newest_time (entries places)) t → Prompts s t w → Keeps p s w met f → Keeps q t w met g
-  seeks_kept w (Ok true) now adds is stands tunnel law aside told prompts k =
+      → WhereTold (λ places. now ≡ newest_time (entries places)) t → HastensOn s t w → Opens s t w w g → Keeps p s w met f → Keeps q t w met g
+  seeks_kept w (Ok true) now adds is stands tunnel law aside told hastens opens k =
       moves p q s t w w met met f g none le (same_refl w) goes
-      (quiet s t w w met (Seeks (Ok true)) goes (same_refl w) adds now law told (λ old added h. (h.nothing, sent_not_got added h.so.0, asides_fit w now aside)) g stands) prompts k
-  seeks_kept w (Ok false) now adds is stands tunnel law aside told prompts k =
+      (quiet s t w w met (Seeks (Ok true)) goes (same_refl w) adds now law told (λ old added h. (h.nothing, sent_not_got added h.so.0, asides_fit w now aside)) g stands) hastens opens k
+  seeks_kept w (Ok false) now adds is stands tunnel law aside told hastens opens k =
       moves p q s t w w met met f g none le (same_refl w) goes
-      (quiet s t w w met (Seeks (Ok false)) goes (same_refl w) adds now law told (λ old added h. (h.nothing, subst NoneGot (sym h.so.0) tt, asides_fit w now aside)) g stands) prompts k
-  seeks_kept w (Err fault) now adds is stands tunnel law aside told prompts k =
+      (quiet s t w w met (Seeks (Ok false)) goes (same_refl w) adds now law told (λ old added h. (h.nothing, subst NoneGot (sym h.so.0) tt, asides_fit w now aside)) g stands) hastens opens k
+  seeks_kept w (Err fault) now adds is stands tunnel law aside told hastens opens k =
       moves p q s t w w met met f g none le (same_refl w) goes
-      (failed s t w w met (Seeks (Err fault)) goes (same_refl w) adds (λ old added h. nothings_put (moments_on old added) h.nothing) met g fault is tunnel) prompts k
+      (failed s t w w met (Seeks (Err fault)) goes (same_refl w) adds (λ old added h. nothings_put (moments_on old added) h.nothing) met g fault is tunnel) hastens opens k
 
-  pub leaves_failed : (w : Work) (fault : HubFault) → Growing (Leaves (Err fault)) s t → g ≡ Some fault → IsOfTunnel fault → Prompts s t w → Keeps p s w met f → Keeps q t w met g
-  leaves_failed w fault adds is tunnel prompts k =
-      moves p q s t w w met met f g none le (same_refl w) goes (failed s t w w met (Leaves (Err fault)) goes (same_refl w) adds (λ old added h. nothings_put (moments_on old added) h.nothing) met g fault is tunnel) prompts k
+  pub leaves_failed : (w : Work) (fault : HubFault) → Growing (Leaves (Err fault)) s t → g ≡ Some fault → IsOfTunnel fault → HastensOn s t w → Keeps p s w met f → Keeps q t w met g
+  leaves_failed w fault adds is tunnel hastens k =
+      moves p q s t w w met met f g none le (same_refl w) goes (failed s t w w met (Leaves (Err fault)) goes (same_refl w) adds (λ old added h. nothings_put (moments_on old added) h.nothing) met g fault is tunnel) hastens (opens_not w w fault is) k
 
-  pub leaves_done : (w v : Work) (asked : Bool) (now : ℕ) → Growing (Leaves (Ok asked)) s t → g ≡ None → SameWork w v → StaysFitting → FollowsAll Asides now w v → WhereTold (λ places. now ≡ newest_time (entries places)) t → Prompts s t w → Keeps p s w met f → Keeps q t v met g
-  leaves_done w v asked now adds stands same law aside told prompts k =
+  pub leaves_done : (w v : Work) (asked : Bool) (now : ℕ) → Growing (Leaves (Ok asked)) s t → g ≡ None → SameWork w v → StaysFitting → FollowsAll Asides now w v → WhereTold (λ places. now ≡ newest_time (entries places)) t → HastensOn s t w → Opens s t w v g → Keeps p s w met f → Keeps q t v met g
+  leaves_done w v asked now adds stands same law aside told hastens opens k =
       moves p q s t w v met met f g none le same goes
-      (quiet s t w v met (Leaves (Ok asked)) goes same adds now law told (λ old added h. (h.nothing, sent_not_got added h.so.2, aside)) g stands) prompts k
+      (quiet s t w v met (Leaves (Ok asked)) goes same adds now law told (λ old added h. (h.nothing, sent_not_got added h.so.2, aside)) g stands) hastens opens k
 
-  pub polls_failed : (w : Work) (fault : HubFault) → Growing (PollAdds (Err fault)) s t → g ≡ Some fault → IsOfTunnel fault → Prompts s t w → Keeps p s w met f → Keeps q t w met g
-  polls_failed w fault adds is tunnel prompts k =
-      moves p q s t w w met met f g none le (same_refl w) goes (failed s t w w met (PollAdds (Err fault)) goes (same_refl w) adds (λ old added h. h.puts_none) met g fault is tunnel) prompts k
+  pub polls_failed : (w : Work) (fault : HubFault) → Growing (PollAdds (Err fault)) s t → g ≡ Some fault → IsOfTunnel fault → HastensOn s t w → Keeps p s w met f → Keeps q t w met g
+  polls_failed w fault adds is tunnel hastens k =
+      moves p q s t w w met met f g none le (same_refl w) goes (failed s t w w met (PollAdds (Err fault)) goes (same_refl w) adds (λ old added h. h.puts_none) met g fault is tunnel) hastens (opens_not w w fault is) k

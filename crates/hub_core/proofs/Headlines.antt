@@ -13,7 +13,7 @@ use Rattle.line_model.specs.Faults.{tries, FaultRight}
 use Rattle.line_model.specs.Headline.{Keeps, IsGoodJob}
 use Rattle.line_model.proofs.Entries.{entries_placed, entries_counted}
 use Rattle.line_law.specs.Safe.{EachAsked, IsSafe, EverySafeInterleaving}
-use Rattle.hub_core.specs.Discipline.{EachSo, Asks, IsPrompt, TellsAndAsks}
+use Rattle.hub_core.specs.Discipline.{EachSo, Asks, Hastens, TellsAndAsks}
 use Rattle.tunnel_link.specs.declared.known.Known.{Known}
 use Rattle.tunnel_link.specs.Adds.{place_of}
 use Rattle.tunnel_link.specs.Goes as tunnel
@@ -25,17 +25,17 @@ use Rattle.hub_core.proofs.Disciplines.{disciplined}
 
 -- ---- the discipline
 
-pub headline : (jobs : List Job) (turns : List GroupTurn) (log : List LogEntry) (story : Story) (k : Known) → OneDownloaderPerDevice jobs log → TellsIn jobs turns log story → KeepsRecord k story → tunnel.Keeps story → WhereTold (EachSo (IsPrompt jobs turns) log) story → Keeps jobs turns story log
-headline jobs turns log Untold k alone tells kept legal prompt = tt
-headline jobs turns log (Recorded r) k alone tells kept legal prompt =
+pub headline : (jobs : List Job) (turns : List GroupTurn) (log : List LogEntry) (story : Story) (k : Known) → OneDownloaderPerDevice jobs log → TellsIn jobs turns log story → KeepsRecord k story → tunnel.Keeps story → WhereTold (EachSo (Hastens jobs turns) log) story → Keeps jobs turns story log
+headline jobs turns log Untold k alone tells kept legal hastens = tt
+headline jobs turns log (Recorded r) k alone tells kept legal hastens =
     let right = (kept (counted r) refl).right in
-    disciplined jobs turns (length r) (counted r) log (entries (counted r)) refl (tells (counted r) refl) (prompt (counted r) refl) alone right.renews right.sends right.acknowledges
-headline jobs turns log (Full start events) k alone tells kept legal prompt =
+    disciplined jobs turns (length r) (counted r) log (entries (counted r)) refl (tells (counted r) refl) (hastens (counted r) refl) alone right.renews right.sends right.acknowledges
+headline jobs turns log (Full start events) k alone tells kept legal hastens =
     let right = (kept (placed start events) refl).right in
     record {
       fresh = legal.fresh;
       legal = legal.legal;
-      disciplined = disciplined jobs turns (length events) (placed start events) log (entries (placed start events)) refl (tells (placed start events) refl) (prompt (placed start events) refl) alone right.renews right.sends right.acknowledges;
+      disciplined = disciplined jobs turns (length events) (placed start events) log (entries (placed start events)) refl (tells (placed start events) refl) (hastens (placed start events) refl) alone right.renews right.sends right.acknowledges;
     }
 
 -- ---- and what the line's law asks of it, without promptness

@@ -4,18 +4,21 @@ use Rattle.std.specs.Prelude.{is_some}
 use Rattle.line_model.specs.declared.fault.HubFault.{HubFault}
 use Rattle.line_model.specs.declared.group.GroupTurn.{GroupTurn}
 use Rattle.line_model.specs.declared.log.LogEntry.{LogEntry}
-use Rattle.line_model.specs.Record.{Placed}
+use Rattle.line_model.specs.Record.{Placed, entries}
+use Rattle.line_model.specs.Leaves.{StaysOpen}
 use Rattle.line_model.specs.LinkStory.{Story, places_in}
 use Rattle.line_model.specs.Log.{Job, IsLog, AllOver, TurnUnfinished}
 use Rattle.device_reservation.specs.Reservation.{Reservation}
 use Rattle.tunnel_link.specs.Adds.{place_of}
 use Rattle.tunnel_link.specs.Goes.{GoesOn}
+use Rattle.tunnel_link.specs.Rights.{WhereTold}
 use Rattle.hub_work.specs.declared.closing.Closing.{Closing}
 use Rattle.hub_work.specs.declared.work.Work.{Work}
 use Rattle.hub_work.specs.Books.{AreJobsOf, IsWritten, IsLive, TellsInTurn, jobs_held}
 use Rattle.hub_work.specs.Downloaders.{Task, AreJobsWith}
 use Rattle.hub_work.specs.Works.{SameBooks, WritesRightly, Lives, TellsRightly, Counts, KeepsBooks, tasks}
-use Rattle.hub_core.specs.Discipline.{EachSo, IsPrompt, TellsAndAsks}
+use Rattle.hub_core.specs.Closes.{has_asked}
+use Rattle.hub_core.specs.Discipline.{EachSo, Hastens, TellsAndAsks}
 use Rattle.hub_core.specs.Keeps.{IsAllOver, IsAllDone, KeepsTold, Keeps}
 use Rattle.hub_core.specs.Seen.{Seen, SameRun}
 use Rattle.hub_core.specs.Taking.{SameWork}
@@ -91,11 +94,18 @@ abbrev pub Tolds : Story → Story → Work → Work → Bool → Bool → Optio
 Tolds s t w v met after g =
     (jobs : List Job) (old new : List Placed) → AreJobsOf w.reservation.devices jobs → places_in s ≡ Some old → places_in t ≡ Some new → KeepsTold jobs w met None (place_of s) old → KeepsTold jobs v after g (place_of t) new
 
--- what was polled promptly stays so, and what is added to the record was
-abbrev pub Prompts : Story → Story → Work → Type 0
-Prompts s t w =
-    (jobs : List Job) (old new : List Placed) → AreJobsOf w.reservation.devices jobs → places_in s ≡ Some old → places_in t ≡ Some new → IsLog jobs w.telegrams.turns (place_of s) w.journal.entries
-    → EachSo (IsPrompt jobs w.telegrams.turns) w.journal.entries old → EachSo (IsPrompt jobs w.telegrams.turns) w.journal.entries new
+-- what came promptly and without a loss of time stays so, and what is added to the record comes so
+abbrev pub HastensOn : Story → Story → Work → Type 0
+HastensOn s t w =
+    (jobs : List Job) (old new : List Placed) → AreJobsWith (tasks w) jobs → AreJobsOf w.reservation.devices jobs → places_in s ≡ Some old → places_in t ≡ Some new → IsLog jobs w.telegrams.turns (place_of s) w.journal.entries
+    → EachSo (Hastens jobs w.telegrams.turns) w.journal.entries old → EachSo (Hastens jobs w.telegrams.turns) w.journal.entries new
+
+-- the open channel wasn't asked to end, in so far as it isn't asked now
+abbrev pub IsOpenSoFar : Story → Type 0
+IsOpenSoFar s = WhereTold (λ places. StaysOpen (entries places)) s
+
+abbrev pub Opens : Story → Story → Work → Work → Option HubFault → Type 0
+Opens s t w v g = g ≡ None → has_asked v.closing ≡ false → (has_asked w.closing ≡ false → IsOpenSoFar s) → IsOpenSoFar t
 
 -- the closing hasn't begun, and doesn't
 none_stays : (a b : Option Closing) → is_some b ≡ is_some a → a ≡ None → b ≡ None
@@ -110,15 +120,16 @@ pub record Stays (w v : Work) : Type 0 where
   pub logs : v.journal.entries ≡ w.journal.entries
   pub begun : is_some v.closing ≡ is_some w.closing
 
-pub moved : (p q : ℕ) (s t : Story) (w v : Work) (met after : Bool) (f g : Option HubFault) → f ≡ None → Stays w v → KeepsBooks q v → GoesOn s t → Tolds s t w v met after g → Prompts s t w → Keeps p s w met f → Keeps q t v after g
-moved p q s t w v met after f g none stays books goes tolds prompts k = record {
+pub moved : (p q : ℕ) (s t : Story) (w v : Work) (met after : Bool) (f g : Option HubFault) → f ≡ None → Stays w v → KeepsBooks q v → GoesOn s t → Tolds s t w v met after g → HastensOn s t w → Opens s t w v g → Keeps p s w met f → Keeps q t v after g
+moved p q s t w v met after f g none stays books goes tolds hastens opens k = record {
   books = books;
   jobs_are = λ jobs of. subst (λ ds. AreJobsOf ds jobs) (sym stays.devices) (k.jobs_are jobs (back jobs of));
   closes = λ begun jobs are.
       subst (λ (ts : List GroupTurn). IsAllOver jobs ts v.journal.entries) (sym stays.turns)
       (subst (λ (l : List LogEntry). IsAllOver jobs w.telegrams.turns l) (sym stays.logs) (k.closes (λ e. begun (none_stays w.closing v.closing stays.begun e)) jobs (subst (λ ds. AreJobsOf ds jobs) stays.devices are)));
   told = λ jobs of new told. by_old jobs (back jobs of) new told (told_before s t new goes told);
-  prompt = λ jobs of new told. promptly jobs (back jobs of) new told (told_before s t new goes told);
+  hastens = λ jobs of new told. hasten jobs (back jobs of) new told (told_before s t new goes told);
+  stays = λ stands asked. opens stands asked (k.stays none);
 }
   where
     back : (jobs : List Job) → AreJobsWith (tasks v) jobs → AreJobsWith (tasks w) jobs
@@ -128,18 +139,18 @@ moved p q s t w v met after f g none stays books goes tolds prompts k = record {
     by_old jobs of new told was =
         tolds jobs was.0 new (k.jobs_are jobs of) was.1 told (subst (λ (h : Option HubFault). KeepsTold jobs w met h (place_of s) was.0) none (k.told jobs of was.0 was.1))
 
-    promptly : (jobs : List Job) → AreJobsWith (tasks w) jobs → (new : List Placed) → places_in t ≡ Some new → (old : List Placed) × (places_in s ≡ Some old) → EachSo (IsPrompt jobs v.telegrams.turns) v.journal.entries new
-    promptly jobs of new told was =
-        subst (λ (ts : List GroupTurn). EachSo (IsPrompt jobs ts) v.journal.entries new) (sym stays.turns)
-        (subst (λ (l : List LogEntry). EachSo (IsPrompt jobs w.telegrams.turns) l new) (sym stays.logs)
-        (prompts jobs was.0 new (k.jobs_are jobs of) was.1 told (k.told jobs of was.0 was.1).tells.form (k.prompt jobs of was.0 was.1)))
+    hasten : (jobs : List Job) → AreJobsWith (tasks w) jobs → (new : List Placed) → places_in t ≡ Some new → (old : List Placed) × (places_in s ≡ Some old) → EachSo (Hastens jobs v.telegrams.turns) v.journal.entries new
+    hasten jobs of new told was =
+        subst (λ (ts : List GroupTurn). EachSo (Hastens jobs ts) v.journal.entries new) (sym stays.turns)
+        (subst (λ (l : List LogEntry). EachSo (Hastens jobs w.telegrams.turns) l new) (sym stays.logs)
+        (hastens jobs was.0 new of (k.jobs_are jobs of) was.1 told (k.told jobs of was.0 was.1).tells.form (k.hastens jobs of was.0 was.1)))
 
 pub stays_same : (w v : Work) → SameWork w v → Stays w v
 stays_same w v same = record { tasks_are = same.tasks_are; devices = ap (λ r. r.devices) same.reservation; turns = same.turns; logs = same_log w v same; begun = same.begun }
 
-pub moves : (p q : ℕ) (s t : Story) (w v : Work) (met after : Bool) (f g : Option HubFault) → f ≡ None → p ≤ q → SameWork w v → GoesOn s t → Tolds s t w v met after g → Prompts s t w → Keeps p s w met f → Keeps q t v after g
-moves p q s t w v met after f g none le same goes tolds prompts k =
-    moved p q s t w v met after f g none (stays_same w v same) (books_same w v same q (books_later p q w le k.books)) goes tolds prompts k
+pub moves : (p q : ℕ) (s t : Story) (w v : Work) (met after : Bool) (f g : Option HubFault) → f ≡ None → p ≤ q → SameWork w v → GoesOn s t → Tolds s t w v met after g → HastensOn s t w → Opens s t w v g → Keeps p s w met f → Keeps q t v after g
+moves p q s t w v met after f g none le same goes tolds hastens opens k =
+    moved p q s t w v met after f g none (stays_same w v same) (books_same w v same q (books_later p q w le k.books)) goes tolds hastens opens k
 
 pub none_inside : {L : Type 0} (a b : Seen L) → a ≡ b → b.fault ≡ None → a.fault ≡ None
 none_inside a b e none = ap (λ (s : Seen _). s.fault) e ∙ none

@@ -30,7 +30,7 @@ use Rattle.hub_core.specs.Keeps.{HasOwnCause, Runs, KeepsTold, Keeps}
 use Rattle.hub_core.specs.Taking.{SameWork, TakesIn, MeetsOne, MeetsSo, NotFlooded, EndsSo}
 use Rattle.hub_core.proofs.Calls.{added_to, not_none, same_some as same_why}
 use Rattle.hub_core.proofs.Counting.{places_ascend, place_grows}
-use Rattle.hub_core.proofs.Keeps.{books_same, books_later, same_log, Tolds, Prompts, moves}
+use Rattle.hub_core.proofs.Keeps.{books_same, books_later, same_log, Tolds, HastensOn, Opens, moves}
 use Rattle.hub_core.proofs.Quiet.{fits_after, quiet_told}
 use Rattle.hub_core.proofs.Requests.{nothings_put, loses_put, takes_put, one_puts}
 use Rattle.hub_core.proofs.Taking.{quiet_not_got, sent_not_got, none_counted, none_opened, counted_once, opens_none}
@@ -208,5 +208,5 @@ module _ (p q : ℕ) (s t : Story) (w v : Work) (met after : Bool) (f g : Option
   by_why (Some Flooded) is ends jobs old new are es et k = flooded_told jobs old new are es et k is ends.1 (ends.2 jobs (place_of t) (kept jobs old new are es et k) (here jobs old new are es et k))
   by_why (Some (WrongLine device tunnel)) is ends jobs old new are es et k = wrong_told jobs old new are es et k device tunnel is ends
 
-  pub polls_kept : (why : Option HubFault) → g ≡ why → EndsSo v met after came.what taken why → Prompts s t w → Keeps p s w met f → Keeps q t v after g
-  polls_kept why is ends prompts k = moves p q s t w v met after f g none le same goes (by_why why is ends) prompts k
+  pub polls_kept : (why : Option HubFault) → g ≡ why → EndsSo v met after came.what taken why → HastensOn s t w → Opens s t w v g → Keeps p s w met f → Keeps q t v after g
+  polls_kept why is ends hastens opens k = moves p q s t w v met after f g none le same goes (by_why why is ends) hastens opens k

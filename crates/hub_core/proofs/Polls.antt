@@ -12,7 +12,7 @@ use Rattle.line_model.specs.LinkStory.{Story, places_in, newest_time}
 use Rattle.line_model.specs.Moments.{moments, time}
 use Rattle.line_model.specs.Log.{Job}
 use Rattle.line_model.specs.Closing as line
-use Rattle.line_model.specs.Waiting.{PollsSo, LastsUntil, channel_deadlines, longest_poll}
+use Rattle.line_model.specs.Waiting.{HasWork, PollsSo, LastsUntil, channel_deadlines, longest_poll}
 use Rattle.tunnel_link.specs.declared.acted.Acted.{Acted}
 use Rattle.tunnel_link.specs.declared.known.Known.{Known}
 use Rattle.tunnel_link.specs.declared.came.Loss.TheVariants.{Stays}
@@ -29,10 +29,10 @@ use Rattle.hub_work.specs.declared.work.Work.{Work}
 use Rattle.hub_work.specs.Downloaders.{Task, AreJobsWith}
 use Rattle.hub_work.specs.Fits.{Fits}
 use Rattle.hub_work.specs.Follows.{StaysFitting}
-use Rattle.hub_work.specs.Polls.{PollsRightly, came_for, closing_so_far}
+use Rattle.hub_work.specs.Polls.{PollsRightly, BusyRightly, TellsWork, came_for, closing_so_far}
 use Rattle.hub_work.specs.Closes.{Begins}
 use Rattle.hub_core.specs.Keeps.{Keeps}
-use Rattle.hub_core.specs.Polls.{has_poll, SendsOnly, PollsOnce, Polls, closing_at, PollsOrNot, PollsInClosing}
+use Rattle.hub_core.specs.Polls.{has_poll, SendsOnly, PollsOnce, Polls, TellsBusy, closing_at, PollsOrNot, PollsInClosing}
 use Rattle.hub_core.specs.Seen.{Seen, SameRun, AreJobs, hub_job_of}
 use Rattle.hub_core.proofs.Counting.{place_grows}
 use Rattle.hub_core.proofs.Following.{newest}
@@ -106,6 +106,17 @@ module _ (p : ℕ) (s t : Story) (w : Work) (met : Bool) (f : Option HubFault) (
 
   pub polls_once : Growing (LastsRightly longest) s t → Polls (map hub_job_of w.downloaders) w.telegrams.turns w.journal.entries w.crew w.closing s t
   polls_once g jobs of old e = let x = g old e in record { new = x.new; told = x.told; added = x.added; grown = x.grown; is = one_poll jobs of old x.added e x.is }
+
+-- ---- whether a worker has work
+
+module _ (p : ℕ) (s : Story) (w : Work) (met : Bool) (f : Option HubFault) (none : f ≡ None) (keeps : Keeps p s w met f) (now : ℕ) (then : WhereTold (λ places. now ≡ newest_time (entries places)) s) (has_place : Bool)
+    (placed : WhereTold (λ places. (has_place ≡ true) ↔ HasPlace (channel (entries places))) s) (busy : Bool) (rightly : BusyRightly now has_place w busy) where
+  pub busy_told : TellsBusy (map hub_job_of w.downloaders) w.telegrams.turns w.journal.entries w.crew busy s
+  busy_told jobs of old e =
+      let k = keeps.told jobs (subst (λ (ts : List Task). AreJobsWith ts jobs) (seen_tasks w) of) old e in
+      let same : now ≡ newest_time (entries old) = then old e in
+      let here : Fits jobs w now (place_of s) (moments old) = subst (λ n. Fits jobs w n (place_of s) (moments old)) (sym (same ∙ newest old)) (k.runs none).fits in
+      subst (λ n. TellsWork busy (λ j. HasWork jobs w.telegrams.turns w.journal.entries old (place_of s) n j (came_for w.crew j))) same (rightly jobs old (place_of s) k.books here (placed old e))
 
 -- ---- what was sent before it
 

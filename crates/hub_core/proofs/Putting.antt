@@ -31,7 +31,7 @@ use Rattle.hub_core.specs.Keeps.{HasOwnCause, KeepsTold, Keeps}
 use Rattle.hub_core.proofs.Calls.{added_to, not_none, same_refl, same_some, own_of_tunnel}
 use Rattle.hub_core.proofs.Counting.{place_counts, place_grows}
 use Rattle.hub_core.proofs.Following.{newest}
-use Rattle.hub_core.proofs.Keeps.{books_later, tells_same, same_log, Tolds, Prompts, Stays, moved}
+use Rattle.hub_core.proofs.Keeps.{books_later, tells_same, same_log, Tolds, HastensOn, Opens, Stays, moved}
 use Rattle.hub_core.proofs.Quiet.{quiet_told, quiet_runs}
 use Rattle.hub_core.proofs.Requests.{Each, Single, single, request_right}
 use Rattle.hub_core.proofs.Taking.{NoneGot}
@@ -138,7 +138,7 @@ pub record PutsSo (s : Story) (w v : Work) (cemi : List ℕ) (at : ℕ) (jobs : 
   pub fits : (m : Moment) (later : ℕ) → m.what ≡ Puts cemi → IsNew m (time (moments old)) at later → Fits jobs v (time (moments old)) later (m ∷ moments old)
 
 module _ (p q : ℕ) (s t : Story) (w v : Work) (met : Bool) (f g : Option HubFault) (none : f ≡ None) (le : p ≤ q) (goes : GoesOn s t) (cemi : List ℕ) (at : ℕ) (at_place : at ≡ p)
-    (stays : Stays w v) (books : KeepsBooks at v) (prompts : Prompts s t w)
+    (stays : Stays w v) (books : KeepsBooks at v) (hastens : HastensOn s t w)
     (so : (jobs : List Job) (old : List Placed) → places_in s ≡ Some old → Fits jobs w (time (moments old)) (place_of s) (moments old) → PutsSo s w v cemi at jobs old) where
   abbrev Adding : Result (Unit {0}) HubFault → Type 0
   Adding result = Growing (PutsOne {X = Unit {0}} result cemi (place_of t)) s t
@@ -146,8 +146,8 @@ module _ (p q : ℕ) (s t : Story) (w v : Work) (met : Bool) (f g : Option HubFa
   books_then : KeepsBooks q v
   books_then = books_later at q v (omega (arith, at_place, le)) books
 
-  pub put_done : (x : Unit {0}) → Adding (Ok x) → g ≡ None → Keeps p s w met f → Keeps q t v met g
-  put_done x adds stands k = moved p q s t w v met met f g none stays books_then goes told prompts k where
+  pub put_done : (x : Unit {0}) → Adding (Ok x) → g ≡ None → Opens s t w v g → Keeps p s w met f → Keeps q t v met g
+  put_done x adds stands opens k = moved p q s t w v met met f g none stays books_then goes told hastens opens k where
     told : Tolds s t w v met met g
     told jobs old new are es et k =
         let how : PutsSo s w v cemi at jobs old = so jobs old es (k.runs refl).fits in
@@ -155,7 +155,7 @@ module _ (p q : ℕ) (s t : Story) (w v : Work) (met : Bool) (f g : Option HubFa
         (added_to s t w w met (PutsOne {X = Unit {0}} (Ok x) cemi (place_of t)) goes (same_refl w) adds old new es et) k ((adds old es).is how.place) g (λ why e. absurd (not_none g why e stands))
 
   pub put_failed : (fault : HubFault) → Adding (Err fault) → g ≡ Some fault → IsOfTunnel fault → Keeps p s w met f → Keeps q t v met g
-  put_failed fault adds is tunnel k = moved p q s t w v met met f g none stays books_then goes told prompts k where
+  put_failed fault adds is tunnel k = moved p q s t w v met met f g none stays books_then goes told hastens (λ stands asked. absurd (not_none g fault is stands)) k where
     told : Tolds s t w v met met g
     told jobs old new are es et k = by_put ((adds old es).is how.place) where
       how : PutsSo s w v cemi at jobs old

@@ -12,6 +12,7 @@ use Rattle.line_model.specs.Log.{Job, IsLog, JobUnfinished, TurnUnfinished, has_
 use Rattle.tunnel_link.specs.Adds.{place_of}
 use Rattle.hub_work.specs.declared.answers.Turned.{Turned}
 use Rattle.hub_work.specs.declared.answers.Turned.TheVariants as answer
+use Rattle.hub_work.specs.declared.closing.Closing.{Closing}
 use Rattle.hub_work.specs.declared.work.Work.{Work}
 use Rattle.hub_work.specs.Books.{AreJobsOf}
 use Rattle.hub_work.specs.Downloaders.{Task, AreJobsWith}
@@ -20,7 +21,8 @@ use Rattle.hub_work.specs.Follows.{TellsTruly}
 use Rattle.hub_work.specs.Turns.{TurnTells, Adds}
 use Rattle.hub_work.specs.Works.{KeepsBooks, SameRun, tasks}
 use Rattle.hub_work.proofs.Growing.{AreUpto}
-use Rattle.hub_core.specs.Discipline.{EachSo, Asks, IsPrompt, TellsAndAsks}
+use Rattle.hub_core.specs.Closes.{has_asked}
+use Rattle.hub_core.specs.Discipline.{EachSo, Asks, Hastens, TellsAndAsks}
 use Rattle.hub_core.specs.Keeps.{IsAllOver, KeepsTold, Keeps}
 use Rattle.hub_core.proofs.Calls.{not_none}
 use Rattle.hub_core.proofs.Closed.{unfinished_before}
@@ -110,7 +112,8 @@ written p at s w v met f none same is run books writes follows k = record {
   jobs_are = λ jobs of. subst (λ d. AreJobsOf d jobs) (sym run.devices) (k.jobs_are jobs (run_back w v run jobs of));
   closes = λ begun jobs are. all_over jobs (subst (λ ds. AreJobsOf ds jobs) run.devices are) (k.closes (λ e. begun (run.closing ∙ e)) jobs (subst (λ ds. AreJobsOf ds jobs) run.devices are));
   told = λ jobs of places e. by_told jobs (run_back w v run jobs of) places e;
-  prompt = λ jobs of places e. promptly jobs (run_back w v run jobs of) places e;
+  hastens = λ jobs of places e. hasten jobs (run_back w v run jobs of) places e;
+  stays = λ stands asked. k.stays stands (subst (λ (o : Option Closing). has_asked o ≡ false) run.closing asked);
 }
   where
     all_over : (jobs : List Job) → AreJobsOf w.reservation.devices jobs → IsAllOver jobs w.telegrams.turns w.journal.entries → IsAllOver jobs v.telegrams.turns v.journal.entries
@@ -119,11 +122,11 @@ written p at s w v met f none same is run books writes follows k = record {
       turns_told = λ u. over.turns_told (untold_on at w.journal.entries v.journal.entries writes w.telegrams.turns (subst (λ (ts : List GroupTurn). TurnUnfinished ts v.journal.entries) run.turns u));
     }
 
-    promptly : (jobs : List Job) → AreJobsWith (tasks w) jobs → (places : List Placed) → places_in s ≡ Some places → EachSo (IsPrompt jobs v.telegrams.turns) v.journal.entries places
-    promptly jobs back places e =
+    hasten : (jobs : List Job) → AreJobsWith (tasks w) jobs → (places : List Placed) → places_in s ≡ Some places → EachSo (Hastens jobs v.telegrams.turns) v.journal.entries places
+    hasten jobs back places e =
         let there : at ≡ place_of s = place_counts at s places e is in
-        subst (λ (ts : List GroupTurn). EachSo (IsPrompt jobs ts) v.journal.entries places) (sym run.turns)
-        (each_on (IsPrompt jobs w.telegrams.turns) at places (subst (λ (n : ℕ). AreUpto n places) (sym there) (places_upto s places e)) w.journal.entries v.journal.entries writes (k.prompt jobs back places e))
+        subst (λ (ts : List GroupTurn). EachSo (Hastens jobs ts) v.journal.entries places) (sym run.turns)
+        (each_on (Hastens jobs w.telegrams.turns) at places (subst (λ (n : ℕ). AreUpto n places) (sym there) (places_upto s places e)) w.journal.entries v.journal.entries writes (k.hastens jobs back places e))
 
     by_told : (jobs : List Job) → AreJobsWith (tasks w) jobs → (places : List Placed) → places_in s ≡ Some places → KeepsTold jobs v met f (place_of s) places
     by_told jobs back places e =

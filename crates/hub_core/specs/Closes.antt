@@ -30,6 +30,11 @@ abbrev pub resumed : line.Closing → List Entry → line.Closing
 resumed s [] = s
 resumed s (x ∷ l) = line.after_entry x (resumed s l)
 
+-- it asked to end the channel, or told of its loss
+abbrev pub has_asked : Option Closing → Bool
+has_asked None = false
+has_asked (Some c) = not (line.is_listening (closing_of c))
+
 -- ---- what a call does to it: once it has begun it goes on with what the call added
 
 abbrev pub Resumes : Option Closing → Option Closing → List Entry → List Entry → Type 0

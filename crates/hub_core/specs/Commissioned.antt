@@ -17,7 +17,7 @@ use Rattle.hub_work.specs.Books.{AreJobsOf}
 use Rattle.hub_work.specs.Downloaders.{Task, AreJobsWith}
 use Rattle.hub_core.specs.Closed.{HasClosed}
 use Rattle.hub_core.specs.Heard.{HeardIn}
-use Rattle.hub_core.specs.Promises.{DropsIn, FaultRightIn, IsRightOver, IsSafeOver, LeavesOver}
+use Rattle.hub_core.specs.Promises.{DropsIn, FaultRightIn, HastensIn, IsRightOver, IsSafeOver, LeavesOver}
 use Rattle.hub_core.specs.Seats.{IsOfWorkers}
 use Rattle.hub_core.specs.Seen.{tasks_seen}
 use Rattle.hub_core.specs.Thorough.{IsThoroughOver}
@@ -29,10 +29,11 @@ log_of report = reverse report.log
 -- ---- what is told of a run by so many workers, when its link tells this and there were so many events
 
 pub record TellsRun (workers : ℕ) (tasks : List Task) (devices : List IndAddr) (turns : List GroupTurn) (story : Story) (place : ℕ) (report : Report) : Type 0 where
-  -- for any jobs with these devices and plans: the client kept its discipline, and so what the line promises holds, of good jobs what its law says
+  -- for any jobs with these devices and plans: the client kept its discipline and lost no time, and so what the line promises holds, of good jobs what its law says
   pub headline : (jobs : List Job) → AreJobsWith tasks jobs → Keeps jobs turns story (log_of report)
   pub safe : (jobs : List Job) → AreJobsWith tasks jobs → IsSafeOver jobs turns story (log_of report)
   pub thorough : (jobs : List Job) → AreJobsWith tasks jobs → IsThoroughOver jobs story (log_of report)
+  pub hastens : (jobs : List Job) → AreJobsWith tasks jobs → HastensIn jobs turns (log_of report) story
   pub right : (jobs : List Job) → AreJobsWith tasks jobs → AllByRecursion IsGoodJob jobs → IsRightOver jobs story (log_of report)
   -- and a fault has its cause
   pub fault : (jobs : List Job) → AreJobsWith tasks jobs → FaultRightIn jobs (log_of report) report.fault (record_in story)

@@ -1,5 +1,5 @@
 -- What a hub keeps of what its link tells: the log is one of its jobs and telegrams, what it tells is true, an end is told only where no attempt runs,
--- and each request was asked rightly. An entry of the record is judged by those before it and by the entries of the log that were made before it.
+-- each request was asked rightly, and each entry came promptly and without a loss of time. An entry of the record is judged by those before it and by the entries of the log that were made before it.
 use Rattle.std.specs.Prelude.{ℕ, ◌⊎◌, List, [], ◌∷◌}
 use Rattle.line_model.specs.declared.group.GroupTurn.{GroupTurn}
 use Rattle.line_model.specs.declared.log.LogEntry.{LogEntry}
@@ -7,6 +7,7 @@ use Rattle.line_model.specs.Record.{Placed, entries}
 use Rattle.line_model.specs.Log.{Job, IsLog, log_before, JobUnfinished, TurnUnfinished}
 use Rattle.line_model.specs.Told.{ToldTruly}
 use Rattle.line_model.specs.Renews.{PollsPromptly}
+use Rattle.line_model.specs.Haste.{LosesNoTime}
 use Rattle.line_model.specs.Asks.{IsRightDeed, moment_of}
 use Rattle.line_model.specs.Ends.{EndsAtRest, BeginsSo}
 
@@ -23,6 +24,11 @@ pub record Asks (jobs : List Job) (turns : List GroupTurn) (log : List LogEntry)
 -- while there is something to do, no deadline of the channel is passed over
 abbrev pub IsPrompt : List Job → List GroupTurn → List LogEntry → List Placed → Placed → Type 0
 IsPrompt jobs turns log older p = JobUnfinished jobs log ⊎ TurnUnfinished turns log → PollsPromptly (entries older) p.what
+
+-- and no time is lost
+pub record Hastens (jobs : List Job) (turns : List GroupTurn) (log : List LogEntry) (older : List Placed) (p : Placed) : Type 0 where
+  pub prompt : IsPrompt jobs turns log older p
+  pub loses_none : LosesNoTime jobs turns log older p
 
 pub record TellsAndAsks (jobs : List Job) (turns : List GroupTurn) (log : List LogEntry) (count : ℕ) (places : List Placed) : Type 0 where
   pub form : IsLog jobs turns count log

@@ -1,6 +1,7 @@
 -- What the type of a hub keeps. Its books are right when its link tells of so many events. Where its link tells something, what the log tells is true,
--- and each request was asked rightly and promptly, always; and until it has ended its work fits the record, and there is no cause to end.
-use Rattle.std.specs.Prelude.{◌≡◌, ◌≢◌, ℕ, ◌<◌, Bool, is_some, List, Option, Some, None}
+-- each request was asked rightly, and each entry came promptly and without a loss of time, always; and until it has ended its work fits the record, and there
+-- is no cause to end. Until it asks to end the channel the open one wasn't asked to.
+use Rattle.std.specs.Prelude.{◌≡◌, ◌≢◌, ℕ, ◌<◌, Bool, false, is_some, List, Option, Some, None}
 use Rattle.knx_model.specs.declared.address.IndAddr.{IndAddr}
 use Rattle.line_model.specs.declared.fault.HubFault.{HubFault}
 use Rattle.line_model.specs.declared.fault.HubFault.TheVariants.{NoMemory, LinkFailed, GatewayRefused, Flooded, WrongLine}
@@ -10,6 +11,7 @@ use Rattle.line_model.specs.Record.{Entry, Placed, entries}
 use Rattle.line_model.specs.LinkStory.{Story}
 use Rattle.line_model.specs.Moments.{moments, time}
 use Rattle.line_model.specs.Log.{Job, JobUnfinished, TurnUnfinished}
+use Rattle.line_model.specs.Leaves.{StaysOpen}
 use Rattle.line_model.specs.Faults.{datagrams_taken, flood, first_tunnel, first_elsewhere, IsFlooded, IsWrongLine}
 use Rattle.tunnel_link.specs.Adds.{place_of}
 use Rattle.tunnel_link.specs.Rights.{WhereTold}
@@ -18,7 +20,8 @@ use Rattle.hub_work.specs.Books.{AreJobsOf}
 use Rattle.hub_work.specs.Downloaders.{AreJobsWith}
 use Rattle.hub_work.specs.Fits.{Fits}
 use Rattle.hub_work.specs.Works.{KeepsBooks, tasks}
-use Rattle.hub_core.specs.Discipline.{EachSo, IsPrompt, TellsAndAsks}
+use Rattle.hub_core.specs.Closes.{has_asked}
+use Rattle.hub_core.specs.Discipline.{EachSo, Hastens, TellsAndAsks}
 
 -- ---- all jobs and group telegrams are over
 
@@ -60,4 +63,5 @@ pub record Keeps (place : ℕ) (story : Story) (w : Work) (met : Bool) (fault : 
   pub jobs_are : (jobs : List Job) → AreJobsWith (tasks w) jobs → AreJobsOf w.reservation.devices jobs
   pub closes : w.closing ≢ None → IsAllDone w.reservation.devices w.telegrams.turns w.journal.entries
   pub told : (jobs : List Job) → AreJobsWith (tasks w) jobs → WhereTold (KeepsTold jobs w met fault (place_of story)) story
-  pub prompt : (jobs : List Job) → AreJobsWith (tasks w) jobs → WhereTold (EachSo (IsPrompt jobs w.telegrams.turns) w.journal.entries) story
+  pub hastens : (jobs : List Job) → AreJobsWith (tasks w) jobs → WhereTold (EachSo (Hastens jobs w.telegrams.turns) w.journal.entries) story
+  pub stays : fault ≡ None → has_asked w.closing ≡ false → WhereTold (λ places. StaysOpen (entries places)) story

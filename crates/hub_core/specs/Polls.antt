@@ -7,14 +7,15 @@ use Rattle.line_model.specs.Record.{Placed, entries, is_poll}
 use Rattle.line_model.specs.LinkStory.{Story, newest_time}
 use Rattle.line_model.specs.Log.{Job}
 use Rattle.line_model.specs.Closing as line
-use Rattle.line_model.specs.Waiting.{PollsSo}
+use Rattle.line_model.specs.Waiting.{HasWork, PollsSo}
 use Rattle.tunnel_link.specs.Adds.{Growing, place_of}
 use Rattle.tunnel_link.specs.Lasts.{PollsFor}
+use Rattle.tunnel_link.specs.Rights.{WhereTold}
 use Rattle.hub_work.specs.declared.closing.Closing.{Closing}
 use Rattle.hub_work.specs.declared.crew.Held.{Held}
 use Rattle.hub_work.specs.declared.job.HubJob.{HubJob}
 use Rattle.hub_work.specs.Closes.{closing_of}
-use Rattle.hub_work.specs.Polls.{came_for, closing_so_far}
+use Rattle.hub_work.specs.Polls.{TellsWork, came_for, closing_so_far}
 use Rattle.hub_core.specs.Seen.{AreJobs}
 
 -- ---- what is no poll
@@ -39,6 +40,12 @@ pub record PollsOnce (jobs : List Job) (turns : List GroupTurn) (log : List LogE
 -- for any jobs with these devices and plans, of the moments up to the call's end, of which those before the poll are told
 abbrev pub Polls : List HubJob → List GroupTurn → List LogEntry → List (Option Held) → Option Closing → Story → Story → Type 0
 Polls hub_jobs turns log crew closing s t = (jobs : List Job) → AreJobs hub_jobs jobs → Growing (PollsOnce jobs turns log crew (closing_so_far closing) (place_of t)) s t
+
+-- ---- whether a worker has work
+
+abbrev pub TellsBusy : List HubJob → List GroupTurn → List LogEntry → List (Option Held) → Bool → Story → Type 0
+TellsBusy hub_jobs turns log crew busy s =
+    (jobs : List Job) → AreJobs hub_jobs jobs → WhereTold (λ places. TellsWork busy (λ k. HasWork jobs turns log places (place_of s) (newest_time (entries places)) k (came_for crew k))) s
 
 -- ---- a step of the closing, which begins now where it hasn't begun, polls once or not at all
 

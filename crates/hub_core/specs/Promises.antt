@@ -9,6 +9,7 @@ use Rattle.line_model.specs.LinkStory.{Story, Untold, Recorded, Full}
 use Rattle.line_model.specs.Log.{Job}
 use Rattle.line_model.specs.Dropped.{dropped}
 use Rattle.line_model.specs.Faults.{FaultRight}
+use Rattle.line_model.specs.Haste.{LosesNoTimes}
 use Rattle.line_model.specs.Headline.{IsRight}
 use Rattle.line_model.specs.Leaves.{LeavesRightly}
 use Rattle.line_law.specs.Safe.{IsSafe, KeepsSafe}
@@ -36,6 +37,10 @@ LeavesOver jobs turns (Full start events) log = LeavesRightly jobs turns log (pl
 -- the log is one of its jobs and telegrams, what it tells is true, and each request was right
 abbrev pub TellsIn : List Job → List GroupTurn → List LogEntry → Story → Type 0
 TellsIn jobs turns log story = WhereTold (TellsAndAsks jobs turns log (place_of story)) story
+
+-- it lost no time
+abbrev pub HastensIn : List Job → List GroupTurn → List LogEntry → Story → Type 0
+HastensIn jobs turns log story = WhereTold (LosesNoTimes jobs turns log) story
 
 -- of the record, where it is told
 abbrev pub FaultRightIn : List Job → List LogEntry → Option HubFault → Option (List Entry) → Type 0

@@ -42,15 +42,13 @@ lasts_both longest now a b A B C from_a from_b of x y = record {
         let is : b ≡ min a b = omega (arith, le) in
         subst (PollEnds longest C now) is (ends_as longest now b B C from_b y.as_long)
 
--- ---- one worker that has nothing to do
+-- ---- one worker, that has something to do or not
 
-pub idle_part : (w : Work) (now : ℕ) (has_place : Bool) (place wait : ℕ) (h : Held) (does : Bool) (deadline : Option ℕ) → Some h ≡ held_at w.crew place → h.came ≤ 0 → does ≡ does_something (next_of_job (states w.downloaders) now h.job) has_place → (h.begun && does) ≡ false
-    → deadline ≡ deadline_of (states w.downloaders) (Some h) → LastsUntil longest_poll (λ t. deadline ≡ Some t) now wait → LooksOrLasts (is_busy_at w now has_place place) (deadline_at w place) now wait
-idle_part w now has_place place wait h does deadline e none acts idle due lasts =
-    let empty : h.came ≡ 0 = omega (arith, none) in
-    let rests : is_busy (states w.downloaders) now has_place (Some h) ≡ false = rw (empty, ← acts) idle in
-    subst (λ (o : Option Held). LooksOrLasts (is_busy (states w.downloaders) now has_place o) (deadline_of (states w.downloaders) o) now wait) e
-    (subst (λ (b : Bool). LooksOrLasts b (deadline_of (states w.downloaders) (Some h)) now wait) (sym rests) (subst (λ (d : Option ℕ). LastsUntil longest_poll (λ t. d ≡ Some t) now wait) due lasts))
+pub busy_part : (busy : Bool) (deadline : Option ℕ) (now : ℕ) → busy ≡ true → LooksOrLasts busy deadline now 0
+busy_part busy deadline now e = rw e refl
+
+pub idle_part : (busy : Bool) (due deadline : Option ℕ) (now wait : ℕ) → busy ≡ false → deadline ≡ due → LastsUntil longest_poll (λ t. deadline ≡ Some t) now wait → LooksOrLasts busy due now wait
+idle_part busy due deadline now wait e same lasts = rw e (subst (λ (d : Option ℕ). LastsUntil longest_poll (λ t. d ≡ Some t) now wait) same lasts)
 
 -- ---- of the workers at the places before this one
 
@@ -140,3 +138,23 @@ module _ (w : Work) (now : ℕ) (has_place : Bool) (n wait : ℕ) (all : length 
 
   pub waits_all : ((place : ℕ) → is_busy_at w now has_place place ≡ false) → LastsUntil longest_poll (IsDue w) now wait
   waits_all none = lasts_as longest_poll now wait (DueBefore w n) (IsDue w) into_all out_all (so_far.waits (λ place lt. none place))
+
+-- ---- none of the workers at the places before this one has something to do
+
+abbrev pub NoneBusyBefore : Work → ℕ → Bool → ℕ → Type 0
+NoneBusyBefore w now has_place n = (place : ℕ) → place < n → is_busy_at w now has_place place ≡ false
+
+pub none_busy_yet : (w : Work) (now : ℕ) (has_place : Bool) → NoneBusyBefore w now has_place 0
+none_busy_yet w now has_place place lt = absurd (omega (arith, lt))
+
+pub none_busy_more : (w : Work) (now : ℕ) (has_place : Bool) (n : ℕ) → NoneBusyBefore w now has_place n → is_busy_at w now has_place n ≡ false → NoneBusyBefore w now has_place (n + 1)
+none_busy_more w now has_place n none idle place lt = elim (cases_eq place n) [
+  | inl same ↦ ap (is_busy_at w now has_place) same ∙ idle
+  | inr apart ↦ none place (omega (arith, lt, apart))
+]
+
+pub none_busy_at_all : (w : Work) (now : ℕ) (has_place : Bool) (n : ℕ) → length w.crew ≤ n → NoneBusyBefore w now has_place n → (place : ℕ) → is_busy_at w now has_place place ≡ false
+none_busy_at_all w now has_place n all none place = elim (cases_lt place n) [
+  | inl lt ↦ none place lt
+  | inr le ↦ rw (beyond w.crew place (omega (arith, all, le))) refl
+]

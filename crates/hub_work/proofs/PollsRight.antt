@@ -14,7 +14,7 @@ use Rattle.line_model.specs.Log.{Job, Held, job_of, state_of}
 use Rattle.line_model.specs.Asks.{HasPlace}
 use Rattle.line_model.specs.Attempts.{Attempts, attempts, begun}
 use Rattle.line_model.specs.Closing as close
-use Rattle.line_model.specs.Waiting.{IsHeldJob, TurnWaits, HasWork, IsDeadline, OfChannel, OfJob, attempts_of, attempt_deadline, closing_deadline, channel_deadlines, longest_poll, PollEnds, AsLongAsItMay, AtDeadline, AtLastTime, LastsUntil, PollsSo}
+use Rattle.line_model.specs.Waiting.{IsHeldJob, TurnWaits, HasWork, IsDeadline, OfChannel, OfJob, NextIsSending, attempts_of, attempt_deadline, closing_deadline, channel_deadlines, longest_poll, PollEnds, AsLongAsItMay, AtDeadline, AtLastTime, LastsUntil, PollsSo}
 use Rattle.line_model.specs.Waiting as when
 use Rattle.device_reservation.specs.declared.stage.Stage.TheVariants.{Held as IsHeldBy}
 use Rattle.device_reservation.specs.Reservation.{stage_of}
@@ -35,7 +35,7 @@ use Rattle.hub_work.specs.Crew.{Holding, holding_in, holdings}
 use Rattle.hub_work.specs.Downloaders.{states}
 use Rattle.hub_work.specs.Fits.{Fits, FitsJob}
 use Rattle.hub_work.specs.Laws.{Laws}
-use Rattle.hub_work.specs.Polls.{does_something, next_of_job, is_busy, is_busy_at, deadline_at, closing_end, end_of_closing, IsDue, OfClosing, OfWorker, came_for, closing_so_far, PollsRightly}
+use Rattle.hub_work.specs.Polls.{does_something, next_of_job, is_busy, is_busy_at, deadline_at, closing_end, end_of_closing, IsDue, OfClosing, OfWorker, came_for, closing_so_far, PollsRightly, TellsWork, BusyRightly, LastsOnceSent}
 use Rattle.hub_work.specs.Works.{KeepsBooks}
 use Rattle.hub_work.proofs.Crews.{IsHeldSo, held_so, holding_at, job_at}
 
@@ -288,11 +288,32 @@ module _ (laws : Laws) (w : Work) (now at : ℕ) (has_place : Bool) (jobs : List
             moved : Why a.holder.job (its a.place a.holder a.there).job (its a.place a.holder a.there).since
             moved = subst (λ n. Why n (its a.place a.holder a.there).job (its a.place a.holder a.there).since) (sym a.is) (subst (λ (x : Job). Why k x (its a.place a.holder a.there).since) (sym a.same_job) (subst (Why k job) (sym a.same_since) why))
 
+    -- what it sends next can be sent
+    sends_busy : 1 ≤ begun (attempts_of job since at places) → NextIsSending (attempts_of job since at places) now → Place → (place : ℕ) × (is_busy_at w now has_place place ≡ true)
+    sends_busy has_begun next place = busy_there (inr (has_begun, λ t. t.sends_nothing (its_next t) place))
+      where
+        its_next : (t : Waits k (came_for w.crew k)) → NextIsSending (attempts_of t.job t.since at places) now
+        its_next t =
+            subst (λ (x : Job). NextIsSending (attempts_of x t.since at places) now) (sym (same_Some t.job job (sym t.holds.there ∙ h.there)))
+            (subst (λ (n : ℕ). NextIsSending (attempts_of job n at places) now) (sym (held_since t.holds.worker h.worker t.since since (sym t.holds.held ∙ h.held))) next)
+
     due_there : (t : ℕ) → attempt_deadline (attempts_of job since at places) ≡ Some t → (place : ℕ) × (deadline_at w place ≡ Some t)
     due_there t due = held at_place
       where
         held : IsAtPlace → (place : ℕ) × (deadline_at w place ≡ Some t)
         held a = (a.place, deadline_here a.place a.holder a.there ∙ (ap (λ (x : Job). attempt_deadline (attempts_of x (its a.place a.holder a.there).since at places)) a.same_job ∙ (ap (λ n. attempt_deadline (attempts_of job n at places)) a.same_since ∙ due)))
+
+  -- ---- whether one has work
+
+  one_works : (place : ℕ) (o : Option Holds) → held_at w.crew place ≡ o → is_busy (states w.downloaders) now has_place o ≡ true → (k : ℕ) × Works k
+  one_works place None e busy = absurd (let isnt : false ≡ true = busy in cc)
+  one_works place (Some h) e busy = (h.job, busy_works place h (sym e) busy)
+
+  none_works : ((place : ℕ) → is_busy_at w now has_place place ≡ false) → (k : ℕ) → ¬ Works k
+  none_works none k hw =
+      let b = busy_there k hw.since hw.job hw.holds hw.why in
+      let isnt : true ≡ false = sym b.1 ∙ none b.0 in
+      cc
 
   -- ---- the whole
 
@@ -351,3 +372,14 @@ module _ (laws : Laws) (w : Work) (now at : ℕ) (has_place : Bool) (jobs : List
 
 pub polls_rightly : (laws : Laws) (w : Work) (now : ℕ) (has_place : Bool) (longest : ℕ) → ((place : ℕ) → is_busy_at w now has_place place ≡ true → longest ≡ 0) → (((place : ℕ) → is_busy_at w now has_place place ≡ false) → LastsUntil longest_poll (IsDue w) now longest) → PollsRightly now has_place w longest
 polls_rightly laws w now has_place longest looks waits jobs places at wait books f placed until = polls_right laws w now at has_place jobs places books f placed longest looks waits wait until
+
+pub is_busy_rightly : (laws : Laws) (w : Work) (now : ℕ) (has_place : Bool) (place : ℕ) → is_busy_at w now has_place place ≡ true → BusyRightly now has_place w true
+is_busy_rightly laws w now has_place place busy jobs places at books f placed = one_works laws w now at has_place jobs places books f placed place (held_at w.crew place) refl busy
+
+pub is_idle_rightly : (laws : Laws) (w : Work) (now : ℕ) (has_place : Bool) → ((place : ℕ) → is_busy_at w now has_place place ≡ false) → BusyRightly now has_place w false
+is_idle_rightly laws w now has_place none jobs places at books f placed = none_works laws w now at has_place jobs places books f placed none
+
+pub lasts_once_sent : (laws : Laws) (w : Work) (now : ℕ) (has_place : Bool) (longest : ℕ) → ((place : ℕ) → is_busy_at w now has_place place ≡ true → longest ≡ 0) → LastsOnceSent now has_place w longest
+lasts_once_sent laws w now has_place longest looks jobs places at books f placed then lasts k since job h has_begun next place =
+    let b = sends_busy laws w now at has_place jobs places books f placed k since job h has_begun (subst (λ n. NextIsSending (attempts_of job since at places) n) (sym then) next) place in
+    absurd (lasts (looks b.0 b.1))

@@ -1,15 +1,17 @@
 -- How long a poll may last for a hub's work: not at all where a worker has something to do, and else until the nearest deadline of a job that is held,
 -- or of the closing. And the same by record and log, whatever link's that is.
-use Rattle.std.specs.Prelude.{◌≡◌, ◌↔◌, ℕ, min, Bool, true, false, not, ◌&&◌, ◌||◌, ◌==◌, List, [], ◌∷◌, Contains, Option, Some, None, option_map, option_and_then, if◌then◌else◌}
+use Rattle.std.specs.Prelude.{◌≡◌, ◌≢◌, ◌↔◌, ℕ, min, Bool, true, false, not, ◌&&◌, ◌||◌, ◌==◌, List, [], ◌∷◌, Contains, Option, Some, None, option_map, option_and_then, if◌then◌else◌}
 use Rattle.knx_model.specs.Connection.{wait_end}
 use Rattle.line_model.specs.Record.{Placed, entries}
+use Rattle.line_model.specs.LinkStory.{newest_time}
 use Rattle.line_model.specs.ClientView.{channel}
 use Rattle.line_model.specs.ChannelLost.{answer_wait}
 use Rattle.line_model.specs.Moments.{moments}
 use Rattle.line_model.specs.Log.{Job}
 use Rattle.line_model.specs.Asks.{HasPlace}
 use Rattle.line_model.specs.Closing as line
-use Rattle.line_model.specs.Waiting.{channel_deadlines, longest_poll, LastsUntil, PollsSo}
+use Rattle.line_model.specs.Waiting.{HasWork, channel_deadlines, longest_poll, LastsUntil, PollsSo}
+use Rattle.line_model.specs.Haste.{HasSent}
 use Rattle.download_core.specs.declared.did.Did.{Did}
 use Rattle.download_core.specs.declared.did.Did.TheVariants as did
 use Rattle.download_core.specs.Attempt.{DownloaderState}
@@ -89,3 +91,22 @@ abbrev pub PollsRightly : ℕ → Bool → Work → ℕ → Type 0
 PollsRightly now has_place w longest =
     (jobs : List Job) (places : List Placed) (at wait : ℕ) → KeepsBooks at w → Fits jobs w now at (moments places) → (has_place ≡ true) ↔ HasPlace (channel (entries places))
     → LastsUntil (min longest longest_poll) (Contains (channel_deadlines (channel (entries places)))) now wait → PollsSo jobs w.telegrams.turns w.journal.entries places at now (closing_so_far w.closing) (came_for w.crew) wait
+
+-- ---- whether a worker has work
+
+-- it is told that one has, or that none has
+abbrev pub TellsWork : Bool → (ℕ → Type 0) → Type 0
+TellsWork true Works = (k : ℕ) × Works k
+TellsWork false Works = (k : ℕ) → ¬ Works k
+
+-- by record and log, where it is told rightly whether there is a place
+abbrev pub BusyRightly : ℕ → Bool → Work → Bool → Type 0
+BusyRightly now has_place w busy =
+    (jobs : List Job) (places : List Placed) (at : ℕ) → KeepsBooks at w → Fits jobs w now at (moments places) → (has_place ≡ true) ↔ HasPlace (channel (entries places))
+    → TellsWork busy (λ k. HasWork jobs w.telegrams.turns w.journal.entries places at now k (came_for w.crew k))
+
+-- where it is told rightly whether there is a place, a poll that may last is made only where each job whose attempt has begun has sent what it can
+abbrev pub LastsOnceSent : ℕ → Bool → Work → ℕ → Type 0
+LastsOnceSent now has_place w longest =
+    (jobs : List Job) (places : List Placed) (at : ℕ) → KeepsBooks at w → Fits jobs w now at (moments places) → (has_place ≡ true) ↔ HasPlace (channel (entries places)) → now ≡ newest_time (entries places) → longest ≢ 0
+    → HasSent jobs w.journal.entries places at

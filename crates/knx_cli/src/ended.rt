@@ -8,8 +8,9 @@ ghost use Rattle.knx_top.specs.declared.ending.End.TheVariants.{Stops};
 ghost use Rattle.knx_top.specs.Call.{AtMostOneRose, HasRunOf, files_of, touches};
 ghost use Rattle.knx_top.specs.Command.{asked, Big as AskedBig, Check as AskedCheck, Decode as AskedDecode, Download as AskedDownload, Find as AskedFind, Gateway as AskedGateway, Sim as AskedSim, Tables as AskedTables};
 ghost use Rattle.knx_top.specs.Ending.{Replies};
-ghost use Rattle.knx_top.specs.Headline.{ActsOnce, BeganRightly, ClosesToItsEnd, EndsEveryJob, EndsThoroughly, HasFaultRight, HasOldStoppedOrNew, HasTelegramsRight, IsOfItsWorkers, IsToldRightly, LeavesItsChannel, RunsWhereDone};
+ghost use Rattle.knx_top.specs.Headline.{ActsOnce, BeganRightly, ClosesToItsEnd, EndsEveryJob, EndsThoroughly, HasFaultRight, HasLostNoTime, HasOldStoppedOrNew, HasTelegramsRight, IsOfItsWorkers, IsToldRightly, LeavesItsChannel, RunsWhereDone};
 ghost use Rattle.knx_top.specs.Ran.{FaultsOfLine};
+ghost use Rattle.knx_top.specs.Undisturbed.{EndsUndisturbed};
 ghost use Rattle.knx_top.specs.commands.Big.{BigWords, RunsMade};
 ghost use Rattle.knx_top.specs.commands.Check.{IsCountsText};
 ghost use Rattle.knx_top.specs.commands.Decode.{TellsOfFrame};
@@ -70,6 +71,8 @@ pub fn status_of<R: Threads + Wait + Sync, F: Files, K: Sink, D: Dialer, G: Gate
     ensures once { IfOk words.now (λ words. HasRunOf ActsOnce (map string_bytes words.items) (F.now files.old) sim.old (record { line = sim.new; report = last.new })) }
     ensures told { IfOk words.now (λ words. HasRunOf IsToldRightly (map string_bytes words.items) (F.now files.old) sim.old (record { line = sim.new; report = last.new })) }
     ensures thorough { IfOk words.now (λ words. HasRunOf EndsThoroughly (map string_bytes words.items) (F.now files.old) sim.old (record { line = sim.new; report = last.new })) }
+    ensures hastens { IfOk words.now (λ words. HasRunOf HasLostNoTime (map string_bytes words.items) (F.now files.old) sim.old (record { line = sim.new; report = last.new })) }
+    ensures undisturbed { IfOk words.now (λ words. HasRunOf EndsUndisturbed (map string_bytes words.items) (F.now files.old) sim.old (record { line = sim.new; report = last.new })) }
     ensures leaves { IfOk words.now (λ words. HasRunOf LeavesItsChannel (map string_bytes words.items) (F.now files.old) sim.old (record { line = sim.new; report = last.new })) }
     ensures fault { IfOk words.now (λ words. HasRunOf HasFaultRight (map string_bytes words.items) (F.now files.old) sim.old (record { line = sim.new; report = last.new })) }
     ensures over { IfOk words.now (λ words. HasRunOf EndsEveryJob (map string_bytes words.items) (F.now files.old) sim.old (record { line = sim.new; report = last.new })) }

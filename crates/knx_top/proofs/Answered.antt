@@ -1,6 +1,7 @@
 -- A line that was served with an answerer in front of its port, by what the port below told.
-use Rattle.std.proofs.Common.{◌≡◌, ◌<◌, ◌+◌, ℕ, zero, suc, Bool, List, [], ◌∷◌, ◌++◌, length, take, drop, map, Option, Some, None, Result, Ok, Err, refl, sym, ap, ◌∙◌, inl, inr, arith}
+use Rattle.std.proofs.Common.{◌≡◌, ◌<◌, ◌+◌, ℕ, zero, suc, Bool, List, [], ◌∷◌, ◌++◌, length, take, drop, map, Option, Some, None, Result, Ok, Err, refl, sym, ap, ◌∙◌, subst, inl, inr, arith}
 use Rattle.std.specs.Prelude.{IfErr, IfOk, OnErr, ◌&&◌, ◌==◌, if◌then◌else◌}
+use Rattle.std.specs.List.{AllByRecursion}
 use Rattle.std.specs.Str.{bytes_eq}
 use Rattle.std.proofs.lemmas.List.{append-nil, length-append}
 use Rattle.std.proofs.Math.Seq.{drop-append_seam, take-append_seam}
@@ -11,7 +12,7 @@ use Rattle.discovery.specs.Discovery.{blocks_of, octets_of}
 use Rattle.discovery.specs.declared.about.About.{About}
 use Rattle.discovery.specs.declared.inquiry.Inquiry.{Inquiry}
 use Rattle.discovery.specs.declared.inquiry.Inquiry.TheVariants.{Search, Description}
-use Rattle.discovery_ends.specs.Answering.{NoneOpen, answer_of, answerer_story, emptied, faults_with, identity, is_answer, is_answer_to, request_in, shown, shown_story, shown_where, without_last}
+use Rattle.discovery_ends.specs.Answering.{HasNoRequest, IsntRequest, answer_of, answerer_story, emptied, faults_with, identity, is_answer, is_answer_to, request_in, shown, shown_story, shown_where, without_last}
 use Rattle.discovery_ends.specs.Naming.{named_item, named_story}
 use Rattle.knx_model.specs.Apdu.{word}
 use Rattle.knx_model.specs.KnxNetIp.{endpoint}
@@ -74,22 +75,31 @@ module _ (own own' : List ℕ) (about about' : About) (failed : Option PortFault
   same_told : identity own' about' ≡ identity own about → octets_of (blocks_of about') ≡ octets_of (blocks_of about)
   same_told e = cc
 
+  same_shown : (items all : List PortItem) → AddsAll items (answerer_story own about None (Recorded [])) (answerer_story own' about' failed (Recorded all))
+      → (shown_where about failed (map (named_item own) all) ≡ shown_where about' failed (map (named_item own') all)) × (shown_where about' failed (map (named_item own') all) ≡ items)
+  same_shown items all h =
+      let first : identity own about ≡ h.0 = same_records (identity own about) h.0 h.1 in
+      let both = same_ends (shown_where about' failed (map (named_item own') all)) items (identity own' about') (identity own about) refl (h.2 ∙ ap (λ (rest : List PortItem). items ++ rest) (sym first)) in (
+        ap (λ (o : List ℕ). shown_where about failed (map (named_item o) all)) (sym (same_own both.1))
+            ∙ where_alike about about' (same_blocks about about' (sym (same_told both.1))) failed (map (named_item own') all),
+        both.0,
+      )
+
   pub added_below : (items : List PortItem) (new_port port : PortStory) → IsNewPort new_port → AddsAll items (answerer_story own about None new_port) (answerer_story own' about' failed port)
       → AddsAll items new_port (shown_story about failed (named_story own port))
   added_below items Untold Untold new h = refl
   added_below items Untold (Recorded all) new h = absurd (let e : Untold ≡ Recorded h.0 = h.1 in cc)
   added_below items (Recorded (item ∷ older)) port new h = absurd cc
   added_below items (Recorded []) Untold new h = absurd (let e : Recorded (identity own about) ≡ Untold = h in cc)
-  added_below items (Recorded []) (Recorded all) new h =
-      let first : identity own about ≡ h.0 = same_records (identity own about) h.0 h.1 in
-      let both = same_ends (shown_where about' failed (map (named_item own') all)) items (identity own' about') (identity own about) refl (h.2 ∙ ap (λ (rest : List PortItem). items ++ rest) (sym first)) in (
-        [],
-        refl,
-        ap (λ (o : List ℕ). shown_where about failed (map (named_item o) all)) (sym (same_own both.1))
-            ∙ where_alike about about' (same_blocks about about' (sym (same_told both.1))) failed (map (named_item own') all)
-            ∙ both.0
-            ∙ sym (append-nil items),
-      )
+  added_below items (Recorded []) (Recorded all) new h = let is = same_shown items all h in ([], refl, is.0 ∙ is.1 ∙ sym (append-nil items))
+
+  -- and no request is left below where none is at the answerer
+  pub none_below : (items : List PortItem) (new_port port : PortStory) → IsNewPort new_port → AddsAll items (answerer_story own about None new_port) (answerer_story own' about' failed port)
+      → HasNoRequest (shown_story about' failed (named_story own' port)) → HasNoRequest (shown_story about failed (named_story own port))
+  none_below items new_port Untold new h none = tt
+  none_below items Untold (Recorded all) new h none = absurd (let e : Untold ≡ Recorded h.0 = h.1 in cc)
+  none_below items (Recorded (item ∷ older)) (Recorded all) new h none = absurd cc
+  none_below items (Recorded []) (Recorded all) new h none = subst (AllByRecursion IsntRequest) (sym (same_shown items all h).0) none
 
 -- ---- the serving, by what was added
 
@@ -126,6 +136,16 @@ module _ (turns : ℕ) (began r : RunNow) (before after before' after' : PortSto
   breaks_below (Ok as_served) h = h
   breaks_below (Err why) h = broken_below h
 
+-- what holds of all that was added holds of the serving
+module _ (turns : ℕ) (began r : RunNow) (before after : PortStory) (P : Type 0) (by : (items : List PortItem) → AddsAll items before after → P) where
+  by_broken : BreaksOff turns began r before after → P
+  by_broken (inl h) = by [] (nothing_added before after h.1)
+  by_broken (inr h) = by h.items h.told
+
+  pub by_added : (result : Result Served PortFault) → IfOk result (λ as_served. ServedSo as_served turns began r before after) → OnErr result (BreaksOff turns began r before after) → P
+  by_added (Ok as_served) so broken = by so.items so.told
+  by_added (Err why) so broken = by_broken broken
+
 -- ---- why it failed: a call that was refused had its cause in one that failed below
 
 rises_below : (below refused : ℕ) → (0 < refused → 0 < below) → Rose (faults_with 0 0) (faults_with below refused) → Rose 0 below
@@ -143,9 +163,9 @@ pub if_cause_below : (result : Result Served PortFault) (faults below refused ol
 if_cause_below (Ok as_served) faults below refused old line r none cause h = h
 if_cause_below (Err why) faults below refused old line r none cause h = cause_below why faults below refused old line r none cause h
 
--- ---- a new port has no request open
+-- ---- at a new port no request was taken
 
-pub none_open : (story : PortStory) → IsNewPort story → NoneOpen story
-none_open Untold new = tt
-none_open (Recorded []) new = refl
-none_open (Recorded (item ∷ older)) new = absurd cc
+pub none_taken : (story : PortStory) → IsNewPort story → HasNoRequest story
+none_taken Untold new = tt
+none_taken (Recorded []) new = tt
+none_taken (Recorded (item ∷ older)) new = absurd cc

@@ -5,7 +5,7 @@ use Rattle.std.specs.List.{AllByRecursion}
 use Rattle.hub_work.specs.declared.job.HubJob.{HubJob}
 use Rattle.hub_work.specs.Books.{AreJobsOf}
 use Rattle.hub_core.specs.Commissioned.{TellsRun}
-use Rattle.hub_core.specs.Promises.{IsRightOver, LeavesOver}
+use Rattle.hub_core.specs.Promises.{HastensIn, IsRightOver, LeavesOver}
 use Rattle.hub_core.specs.Seen.{AreJobs, tasks_seen}
 use Rattle.call_words.specs.declared.job_word.JobWord.{JobWord}
 use Rattle.knx_model.specs.Outside.{one_more}
@@ -59,6 +59,7 @@ told_over workers plans groups began after place report none new goes good tells
       goes = goes;
       keeps = subst (λ (turns : List GroupTurn). Keeps jobs turns after (log_in report)) none (tells.headline jobs are);
       right = tells.right jobs are good;
+      hastens = subst (λ (turns : List GroupTurn). HastensIn jobs turns (log_in report) after) none (tells.hastens jobs are);
       thorough = tells.thorough jobs are;
       leaves = subst (λ (turns : List GroupTurn). LeavesOver jobs turns after (log_in report)) none (tells.leaves jobs of);
       fault = tells.fault jobs are;

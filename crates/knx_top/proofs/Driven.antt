@@ -9,7 +9,7 @@ use Rattle.bus_sim.specs.Begun.{mode_of}
 use Rattle.bus_sim.specs.Ended.{FailsAtEnd}
 use Rattle.bus_sim.specs.RunNow.{RunNow, mode, script, start, story, story_of}
 use Rattle.hub_core.specs.Commissioned.{TellsRun}
-use Rattle.hub_core.specs.Promises.{IsRightOver, FaultRightIn, DropsIn, LeavesOver}
+use Rattle.hub_core.specs.Promises.{IsRightOver, FaultRightIn, DropsIn, HastensIn, LeavesOver}
 use Rattle.hub_core.specs.Seen.{AreJobs, tasks_seen}
 use Rattle.hub_core.specs.Thorough.{IsThoroughOver}
 use Rattle.hub_core.specs.Closed.{HasClosed}
@@ -32,7 +32,8 @@ use Rattle.line_model.specs.Legal.{IsLegal}
 use Rattle.line_model.specs.declared.group.GroupTurn.{GroupTurn}
 use Rattle.line_model.specs.Lines.{Script, script_of}
 use Rattle.line_model.specs.LinkStory.{Full, record_in}
-use Rattle.line_model.specs.Log.{Job}
+use Rattle.line_model.specs.Haste.{LosesNoTimes}
+use Rattle.line_model.specs.Log.{Job, TurnUnfinished}
 use Rattle.line_model.specs.Record.{placed}
 use Rattle.line_model.specs.StartOf.{BusOf}
 use Rattle.line_model.specs.Tunnel.{Commissions}
@@ -151,9 +152,11 @@ driven c order workers turns line place report is by sends one goes says fresh l
       told = record {
         disciplined = subst (λ (ts : List GroupTurn). IsDisciplined jobs ts (length line.run.events) (placed (start line.run) line.run.events) (log_in report)) sends kept.disciplined;
         thorough = subst (λ s. IsThoroughOver jobs s (log_in report)) whole (tells.thorough jobs are);
+        hastens = subst (λ (ts : List GroupTurn). LosesNoTimes jobs ts (log_in report) (placed (start line.run) line.run.events)) sends (subst (λ s. HastensIn jobs turns (log_in report) s) whole (tells.hastens jobs are) (placed (start line.run) line.run.events) refl);
         leaves = subst (λ (ts : List GroupTurn). LeavesRightly jobs ts (log_in report) (placed (start line.run) line.run.events)) sends left;
         fault = subst (λ s. FaultRightIn jobs (log_in report) report.fault (record_in s)) whole (tells.fault jobs are);
         ended = λ none. tells.over none jobs of;
+        sent = λ none. subst (λ (ts : List GroupTurn). ¬ TurnUnfinished ts (log_in report)) sends (tells.told none);
         in_order = tells.in_order jobs of;
         closed = λ none. subst (λ s. WhereTold (HasClosed (log_in report)) s) whole (tells.closed none) (placed (start line.run) line.run.events) refl;
         heard = subst (λ s. HeardIn report.fault report.missed report.heard (record_in s)) whole tells.heard;

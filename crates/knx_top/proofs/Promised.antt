@@ -4,7 +4,7 @@ use Rattle.bus_sim.specs.RunNow.{RunNow}
 use Rattle.call_words.specs.declared.job_word.JobWord.{JobWord}
 use Rattle.line_model.specs.declared.log.Report.{Report}
 use Rattle.line_model.specs.Log.{Job}
-use Rattle.knx_top.specs.Headline.{OfItsJobs, BeganRightly, HasOldStoppedOrNew, HasTelegramsRight, RunsWhereDone, ActsOnce, IsToldRightly, EndsThoroughly, LeavesItsChannel, HasFaultRight, EndsEveryJob, ClosesToItsEnd, IsOfItsWorkers}
+use Rattle.knx_top.specs.Headline.{OfItsJobs, BeganRightly, HasOldStoppedOrNew, HasTelegramsRight, RunsWhereDone, ActsOnce, IsToldRightly, EndsThoroughly, HasLostNoTime, LeavesItsChannel, HasFaultRight, EndsEveryJob, ClosesToItsEnd, IsOfItsWorkers}
 use Rattle.knx_top.specs.Ran.{Ran, Commission}
 
 of_its_jobs : (c : Commission) (r : RunNow) (report : Report) (words : List JobWord) (P : List Job → Type 0) (ran : Ran c r report words) → P ran.jobs → OfItsJobs c P
@@ -30,6 +30,9 @@ told_rightly c r report words ran = of_its_jobs c r report words _ ran ran.told.
 
 pub ends_thoroughly : (c : Commission) (r : RunNow) (report : Report) (words : List JobWord) → Ran c r report words → EndsThoroughly c r report
 ends_thoroughly c r report words ran = of_its_jobs c r report words _ ran ran.told.thorough
+
+pub lost_no_time : (c : Commission) (r : RunNow) (report : Report) (words : List JobWord) → Ran c r report words → HasLostNoTime c r report
+lost_no_time c r report words ran = of_its_jobs c r report words _ ran ran.told.hastens
 
 pub leaves_its_channel : (c : Commission) (r : RunNow) (report : Report) (words : List JobWord) → Ran c r report words → LeavesItsChannel c r report
 leaves_its_channel c r report words ran = of_its_jobs c r report words _ ran ran.told.leaves

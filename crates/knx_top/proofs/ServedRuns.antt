@@ -1,5 +1,5 @@
 -- A line that was served at a port, once the port was handed back.
-use Rattle.std.proofs.Common.{◌≡◌, ◌<◌, ◌≤◌, List, [], ◌∷◌, Option, None, Result, Ok, Err, refl, sym, ap, ◌∙◌, subst, inl, inr, ◌⊎◌, ℕ}
+use Rattle.std.proofs.Common.{◌≡◌, ◌<◌, ◌≤◌, List, [], ◌∷◌, Option, None, Some, Result, Ok, Err, refl, sym, ap, ◌∙◌, subst, inl, inr, ◌⊎◌, ℕ}
 use Rattle.std.specs.Prelude.{IfErr, IfOk, OnErr, OnOk}
 use Rattle.bus_sim.specs.declared.beginning.Beginning.{Beginning}
 use Rattle.bus_sim.specs.declared.serve.Served.{Served}
@@ -7,9 +7,9 @@ use Rattle.bus_sim.specs.declared.serve.Served.TheVariants as served
 use Rattle.bus_sim.specs.Begun.{mode_in}
 use Rattle.bus_sim.specs.Loaded.{BusNow}
 use Rattle.bus_sim.specs.RunNow.{RunNow, mode, script, start}
-use Rattle.bus_sim.specs.Serving.{AddsAll, BreaksOff, FailsAt, ServedSo, served_beginning}
+use Rattle.bus_sim.specs.Serving.{AddsAll, BeforeTurn, BreaksOff, FailsAt, ServedSo, served_beginning}
 use Rattle.discovery.specs.declared.about.About.{About}
-use Rattle.discovery_ends.specs.Answering.{answerer_story, faults_with, shown_story}
+use Rattle.discovery_ends.specs.Answering.{AllAnswered, HasNoRequest, answerer_story, faults_with, shown_story}
 use Rattle.discovery_ends.specs.Naming.{named_story}
 use Rattle.knx_model.specs.Outside.{one_more}
 use Rattle.line_model.specs.declared.outside.port.PortFault.{PortFault}
@@ -24,11 +24,62 @@ use Rattle.line_model.specs.StartOf.{BusOf, tunnel_address}
 use Rattle.line_model.specs.Tunnel.{Mode, Serves as AtPort}
 use Rattle.line_model.specs.World.{World, Event}
 use Rattle.knx_top.specs.Begun.{BeginsLine}
-use Rattle.knx_top.proofs.Answered.{added_below, breaks_below, if_cause_below, so_below}
+use Rattle.knx_top.proofs.Answered.{added_below, breaks_below, by_added, if_cause_below, none_below, so_below}
 use Rattle.knx_top.proofs.DialledRuns.{to_address}
 use Rattle.knx_top.specs.Identity.{about_gateway, own_endpoint}
 use Rattle.knx_top.specs.declared.ending.ServiceEnd.{ServiceEnd}
-use Rattle.knx_top.specs.commands.Gateway.{end_of_serving, HasCause, IsServed, ServedRun, Service, ServesTo, Serving}
+use Rattle.knx_top.specs.commands.Gateway.{end_of_serving, HasCause, IsBrokenOff, IsServed, ServedRun, Service, ServesTo, Serving, unless_failed}
+
+-- ---- a serving in which an answer failed broke off so, if not otherwise
+
+ends_broken : (turns : ℕ) (as_served : Served) (began r : RunNow) (new_port port : PortStory) → ServedSo as_served turns began r new_port port → BreaksOff turns began r new_port port
+ends_broken turns as_served began r new_port port h =
+    inr (record { begun = h.begun; items = h.items; told = h.told; whole_events = r.events; whole_items = h.items; whole = h.whole; breaks = BeforeTurn; few = h.few })
+
+module _ (turns : ℕ) (began r : RunNow) (new_port port : PortStory) where
+  abbrev So : Served → Type 0
+  So as_served = ServedSo as_served turns began r new_port port
+
+  abbrev Broken : Type 0
+  Broken = BreaksOff turns began r new_port port
+
+  served_unless : (failed : Option PortFault) (result : Result Served PortFault) → IfOk result So → IfOk (unless_failed failed result) So
+  served_unless None (Ok as_served) so = so
+  served_unless (Some why) (Ok as_served) so = tt
+  served_unless None (Err why) so = tt
+  served_unless (Some other) (Err why) so = tt
+
+  broken_unless : (failed : Option PortFault) (result : Result Served PortFault) → IfOk result So → OnErr result Broken → OnErr (unless_failed failed result) Broken
+  broken_unless None (Ok as_served) so broken = tt
+  broken_unless (Some why) (Ok as_served) so broken = ends_broken turns as_served began r new_port port so
+  broken_unless None (Err why) so broken = broken
+  broken_unless (Some other) (Err why) so broken = broken
+
+sound_unless : (P : Type 0) (failed : Option PortFault) (result : Result Served PortFault) → OnOk result P → OnOk (unless_failed failed result) P
+sound_unless P None (Ok as_served) h = h
+sound_unless P (Some why) (Ok as_served) h = tt
+sound_unless P None (Err why) h = tt
+sound_unless P (Some other) (Err why) h = tt
+
+failed_so : (why : PortFault) (faults faults' : ℕ) (begun line : BusNow) → faults ≡ 0 → (why ≡ fault.Failed → 0 < faults') → line.faults ≡ begun.faults → FailsAt why faults faults' begun.faults line.faults line.run
+failed_so (fault.NoMemory want) faults faults' begun line unfailed broke still = still
+failed_so fault.Failed faults faults' begun line unfailed broke still = inl (inl (rw unfailed (broke refl)), still)
+
+cause_unless : (failed : Option PortFault) (result : Result Served PortFault) (faults faults' : ℕ) (begun line : BusNow) → faults ≡ 0 → (failed ≡ Some fault.Failed → 0 < faults') → OnOk result (line.faults ≡ begun.faults)
+    → IfErr result (λ why. FailsAt why faults faults' begun.faults line.faults line.run) → IfErr (unless_failed failed result) (λ why. FailsAt why faults faults' begun.faults line.faults line.run)
+cause_unless None (Ok as_served) faults faults' begun line unfailed broke still cause = tt
+cause_unless (Some why) (Ok as_served) faults faults' begun line unfailed broke still cause = failed_so why faults faults' begun line unfailed (λ e. broke (ap Some e)) still
+cause_unless None (Err why) faults faults' begun line unfailed broke still cause = cause
+cause_unless (Some other) (Err why) faults faults' begun line unfailed broke still cause = cause
+
+is_broken : (turns : ℕ) (why : PortFault) → IsBrokenOff (end_of_serving turns (Err why))
+is_broken turns fault.Failed = tt
+is_broken turns (fault.NoMemory want) = tt
+
+broke_off : (turns : ℕ) (failed : Option PortFault) (result : Result Served PortFault) (why : PortFault) → failed ≡ Some why → IsBrokenOff (end_of_serving turns (unless_failed failed result))
+broke_off turns None result why e = cc
+broke_off turns (Some other) (Ok as_served) why e = is_broken turns other
+broke_off turns (Some other) (Err other_why) why e = is_broken turns other_why
 
 -- ---- how the serving ended, and why
 
@@ -98,24 +149,32 @@ module _ (s : Service) (turns : ℕ) (result : Result Served PortFault) (begun l
       → OnErr result (BreaksOff turns begun.run line.run (answerer_story own about None new_port) (answerer_story own' about' failed port))
       → IfErr result (λ why. FailsAt why (faults_with faults 0) (faults_with faults' refused) begun.faults line.faults line.run) → OnOk result (line.faults ≡ begun.faults)
       → start line.run ≡ start begun.run → script line.run ≡ script begun.run → IsFresh (start line.run) → IsLegal (mode line.run) (start line.run) line.run.events → Follows (script line.run) (mode line.run) (start line.run) line.run.events
-      → (0 < refused → 0 < faults') → port_back ≡ port → TakesBack faults' since after → end ≡ end_of_serving turns result → Serving s line port_back since after end
-  serving faults faults' refused since after end begins most named tells new unfailed sound so broken cause still same says fresh legal follows refuses told taken ended =
+      → AllAnswered about' failed (named_story own' port) → (failed ≡ Some fault.Failed → 0 < faults') → (0 < refused → 0 < faults') → port_back ≡ port → TakesBack faults' since after
+      → end ≡ end_of_serving turns (unless_failed failed result) → Serving s line port_back since after end
+  serving faults faults' refused since after end begins most named tells new unfailed sound so broken cause still same says fresh legal follows answered broke refuses told taken ended =
       let below : PortStory = shown_story about failed (named_story own port) in
       let added : (items : List PortItem) → AddsAll items (answerer_story own about None new_port) (answerer_story own' about' failed port) → AddsAll items new_port below = λ items h. added_below own own' about about' failed items new_port port new h in
-      let served_so : IfOk result (λ as_served. ServedSo as_served turns begun.run line.run new_port below) = so_below turns begun.run line.run _ _ new_port below added result so in
-      let broken_so : OnErr result (BreaksOff turns begun.run line.run new_port below) = breaks_below turns begun.run line.run _ _ new_port below added result broken in
-      let caused_so : IfErr result (λ why. FailsAt why faults faults' begun.faults line.faults line.run) = if_cause_below result faults faults' refused begun.faults line.faults line.run unfailed refuses cause in
+      let now : Result Served PortFault = unless_failed failed result in
+      let so_far : IfOk result (λ as_served. ServedSo as_served turns begun.run line.run new_port below) = so_below turns begun.run line.run _ _ new_port below added result so in
+      let served_so : IfOk now (λ as_served. ServedSo as_served turns begun.run line.run new_port below) = served_unless turns begun.run line.run new_port below failed result so_far in
+      let broken_so : OnErr now (BreaksOff turns begun.run line.run new_port below) =
+      broken_unless turns begun.run line.run new_port below failed result so_far (breaks_below turns begun.run line.run _ _ new_port below added result broken) in
+      let caused_so : IfErr now (λ why. FailsAt why faults faults' begun.faults line.faults line.run) =
+      cause_unless failed result faults faults' begun line unfailed broke still (if_cause_below result faults faults' refused begun.faults line.faults line.run unfailed refuses cause) in
+      let none : HasNoRequest below = by_added turns begun.run line.run _ _ (HasNoRequest below) (λ items h. none_below own own' about about' failed items new_port port new h answered) result so broken in
       record {
-        run = is_served s begun.run line.run begins same says fresh legal follows (is_at_port turns result begun.run line.run new_port below begins.nothing served_so broken_so);
+        run = is_served s begun.run line.run begins same says fresh legal follows (is_at_port turns now begun.run line.run new_port below begins.nothing served_so broken_so);
         began = begun.run;
         begins = begins;
         new_port = new_port;
         new = new;
         failed = failed;
-        serves = rw (told, ended, most, ← named, ← tells) (serves_to turns result begun.run line.run new_port below served_so broken_so);
+        broke = rw ended (broke_off turns failed result);
+        answered = rw (told, ← named, ← tells) none;
+        serves = rw (told, ended, most, ← named, ← tells) (serves_to turns now begun.run line.run new_port below served_so broken_so);
         faults = faults';
         taken = taken;
-        cause = rw ended (has_cause turns result faults faults' begun.faults line unfailed sound caused_so still);
+        cause = rw ended (has_cause turns now faults faults' begun.faults line unfailed sound caused_so (sound_unless _ failed result still));
       }
 
 -- ---- the port was bound

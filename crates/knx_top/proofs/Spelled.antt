@@ -15,7 +15,7 @@ use Rattle.knx_top.specs.commands.Big.{BigWords, big_words, most_devices, start_
 use Rattle.knx_top.specs.commands.Download.{DownloadWords, download_words}
 use Rattle.discovery.specs.declared.inquiry.Inquiry.{Inquiry}
 use Rattle.discovery.specs.declared.inquiry.Inquiry.TheVariants.{Search, Description}
-use Rattle.knx_top.specs.commands.Find.{FindWords, find_words, inquiry_value}
+use Rattle.knx_top.specs.commands.Find.{FindWords, find_words}
 use Rattle.knx_top.specs.commands.Gateway.{GatewayWords, gateway_words, turns_rows, turns_value}
 use Rattle.knx_top.specs.commands.Decode.{decode_word}
 

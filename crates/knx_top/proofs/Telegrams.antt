@@ -24,7 +24,7 @@ use Rattle.line_model.specs.Telegrams.{ActsByConfig, ActsByImage, ActsByProject,
 use Rattle.line_model.specs.World.{World, Event, replay}
 use Rattle.knx_top.specs.Begun.{IsOldInRange}
 use Rattle.knx_top.specs.Jobs.{ArePlanned}
-use Rattle.knx_top.specs.OnLine.{IsImage}
+use Rattle.table_compiler.specs.Images.{IsImage}
 use Rattle.knx_top.proofs.Addresses.{Named, always_named}
 use Rattle.knx_top.proofs.Meanings.{now_case, planned_of}
 

@@ -6,7 +6,7 @@ use Rattle.knx_top.specs.Ran.{Commission, FaultsOfLine, Left}
 use Rattle.line_model.specs.Dialled.{DialerNow}
 use Rattle.knx_top.specs.commands.Big.{BigWords, RunsMade, commission_made}
 use Rattle.knx_top.specs.commands.Download.{DownloadWords, RunsDialled, files_of_download}
-use Rattle.knx_top.specs.commands.Find.{FindWords, RunsFind}
+use Rattle.knx_top.specs.commands.Find.{RunsFind}
 use Rattle.knx_top.specs.declared.ending.End.{End}
 use Rattle.knx_model.specs.Outside.{FilesNow}
 use Rattle.knx_top.specs.commands.Gateway.{GatewayWords, RunsGateway, files_of_gateway}

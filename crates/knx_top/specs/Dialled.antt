@@ -2,7 +2,7 @@
 use Rattle.std.specs.Prelude.{ℕ, IfSome, List, None, ◌≡◌}
 use Rattle.line_model.specs.Dialled.{Address, DialerNow, TakesBack, Tells}
 use Rattle.line_model.specs.Log.{AllOver, IsLog, Job, OneDownloaderPerDevice, TakenInOrder}
-use Rattle.hub_core.specs.Promises.{DropsIn, FaultRightIn, IsRightOver, LeavesOver}
+use Rattle.hub_core.specs.Promises.{DropsIn, FaultRightIn, HastensIn, IsRightOver, LeavesOver}
 use Rattle.tunnel_link.specs.Rights.{FailsWhere, WhereTold}
 use Rattle.line_model.specs.LinkStory.{Full, IsNewLink, Recorded, Story, record_in, Untold}
 use Rattle.tunnel_link.specs.Goes.{GoesOn}
@@ -35,7 +35,8 @@ pub record IsToldOver (workers : ℕ) (turns : List GroupTurn) (jobs : List Job)
   -- the client keeps the discipline of the line, and so the headline holds
   pub keeps : Keeps jobs turns story (log_in report)
   pub right : IsRightOver jobs story (log_in report)
-  -- it ends its jobs and loses its channels thoroughly, and leaves the open one rightly
+  -- it loses no time, ends its jobs and loses its channels thoroughly, and leaves the open one rightly
+  pub hastens : HastensIn jobs turns (log_in report) story
   pub thorough : IsThoroughOver jobs story (log_in report)
   pub leaves : LeavesOver jobs turns story (log_in report)
   -- a fault has its cause in the record, want of memory and a failed link aside; without one there is none in the end, every job has its end, and the closing is over

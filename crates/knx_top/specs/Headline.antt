@@ -6,6 +6,7 @@ use Rattle.line_model.specs.declared.log.Report.{Report}
 use Rattle.line_model.specs.ActedOnce.{ActedOnce}
 use Rattle.line_model.specs.Faults.{FaultRight}
 use Rattle.line_model.specs.Headline.{IsDisciplined}
+use Rattle.line_model.specs.Haste.{LosesNoTimes}
 use Rattle.line_model.specs.Leaves.{LeavesRightly}
 use Rattle.line_model.specs.Log.{Job, AllOver}
 use Rattle.line_model.specs.OldStoppedOrNew.{OldStoppedOrNew, RunsMeaning, MeansWhereDone}
@@ -53,6 +54,11 @@ IsToldRightly c r report = OfItsJobs c (λ jobs. IsDisciplined jobs c.turns (len
 -- followed by what is due to the gateway then, and by nothing more
 abbrev pub EndsThoroughly : Commission → RunNow → Report → Type 0
 EndsThoroughly c r report = OfItsJobs c (λ jobs. IsThorough jobs (placed (start r) r.events) (log_in report))
+
+-- its client loses no time: a poll lasts at most 100 ms, a heartbeat is in time, and no time passes while a job that has begun has something to send
+-- that can be sent
+abbrev pub HasLostNoTime : Commission → RunNow → Report → Type 0
+HasLostNoTime c r report = OfItsJobs c (λ jobs. LosesNoTimes jobs c.turns (log_in report) (placed (start r) r.events))
 
 -- the open channel isn't asked to end before all jobs are over, and then once, after the listening
 abbrev pub LeavesItsChannel : Commission → RunNow → Report → Type 0

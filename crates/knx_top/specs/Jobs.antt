@@ -17,7 +17,7 @@ use Rattle.download_core.specs.JobPlans.{job_left}
 use Rattle.download_core.specs.declared.job_plan.JobPlan.{JobPlan}
 use Rattle.download_core.specs.declared.job_plan.JobPlan.TheVariants as plan
 use Rattle.hub_work.specs.declared.job.HubJob.{HubJob}
-use Rattle.knx_top.specs.OnLine.{IsImage}
+use Rattle.table_compiler.specs.Images.{IsImage}
 
 -- ---- which jobs
 

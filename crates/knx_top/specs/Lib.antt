@@ -14,6 +14,7 @@ pub mod Judged
 pub mod Ran
 pub mod Shown
 pub mod Headline
+pub mod Undisturbed
 pub mod Begun
 pub mod Dialled
 pub mod commands

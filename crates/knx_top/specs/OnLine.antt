@@ -4,12 +4,10 @@ use Rattle.std.specs.Prelude.{◌≡◌, ℕ, ◌+◌, ◌*◌, true, false, Lis
 use Rattle.std.specs.List.{AllZip, range_with_len}
 use Rattle.knx_model.specs.declared.address.IndAddr.{IndAddr}
 use Rattle.knx_model.specs.declared.config.Image.{Image}
-use Rattle.knx_model.specs.Acts.{IsInRange}
-use Rattle.knx_model.specs.Device.{Fits}
-use Rattle.knx_model.specs.Meaning.{Installation, meaning}
+use Rattle.knx_model.specs.Meaning.{Installation}
 use Rattle.knx_model.specs.Rules.{has_device}
-use Rattle.knx_model.specs.Tables.{StandsFor}
 use Rattle.line_model.specs.StartOf.{line_of, tunnel_address, is_on_bus}
+use Rattle.table_compiler.specs.Images.{IsImage}
 
 -- the addresses of a line, ascending
 abbrev pub address_at : ℕ → ℕ → IndAddr
@@ -23,12 +21,6 @@ unfoldable pub on_bus : Installation → Installation → List IndAddr
 on_bus new old = filter (λ (device : IndAddr). is_on_bus new old device.raw) (addresses_of_line (line_of (tunnel_address new).raw))
 
 -- ---- compiled images
-
--- the compiled image of what a project says of a device: it fits, and its tables' numbers have two octets
-pub record IsImage (project : Installation) (device : IndAddr) (image : Image) : Type 0 where
-  pub stands : StandsFor image (meaning project device)
-  pub fits : Fits image
-  pub in_range : IsInRange (meaning project device)
 
 -- the image of the device where the project has it
 abbrev pub IsImageWhere : Installation → IndAddr → Option Image → Type 0

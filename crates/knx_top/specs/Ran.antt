@@ -5,7 +5,7 @@
 use Rattle.std.specs.Prelude.{ℕ, IfSome, List, None, Option, Some, ◌≡◌, length, min, reverse, ◌^◌, ◌-◌}
 use Rattle.line_model.specs.ActedOnce.{ActedOnce}
 use Rattle.line_model.specs.Telegrams.{ActsByProject, TelegramsActRight}
-use Rattle.line_model.specs.Log.{AllOver, Job, TakenInOrder}
+use Rattle.line_model.specs.Log.{AllOver, Job, TakenInOrder, TurnUnfinished}
 use Rattle.knx_top.specs.Jobs.{AreJobs, ArePlanned}
 use Rattle.knx_top.specs.Turns.{turns_of}
 use Rattle.bus_sim.specs.Loaded.{BusNow}
@@ -25,6 +25,7 @@ use Rattle.hub_core.specs.Heard.{HeardOf}
 use Rattle.hub_core.specs.Seats.{IsOfWorkers}
 use Rattle.hub_core.specs.Thorough.{IsThorough}
 use Rattle.call_words.specs.declared.job_word.JobWord.{JobWord}
+use Rattle.line_model.specs.Haste.{LosesNoTimes}
 use Rattle.line_model.specs.Leaves.{LeavesRightly}
 use Rattle.line_model.specs.declared.fault.HubFault.TheVariants.{LinkFailed}
 use Rattle.line_model.specs.declared.log.LogEntry.{LogEntry}
@@ -80,9 +81,11 @@ log_in report = reverse report.log
 pub record IsTold (c : Commission) (jobs : List Job) (r : RunNow) (report : Report) : Type 0 where
   pub disciplined : IsDisciplined jobs c.turns (length r.events) (placed (start r) r.events) (log_in report)
   pub thorough : IsThorough jobs (placed (start r) r.events) (log_in report)
+  pub hastens : LosesNoTimes jobs c.turns (log_in report) (placed (start r) r.events)
   pub leaves : LeavesRightly jobs c.turns (log_in report) (placed (start r) r.events)
   pub fault : FaultRight jobs (log_in report) (record_of (start r) r.events) report.fault
   pub ended : report.fault ≡ None → AllOver jobs (log_in report)
+  pub sent : report.fault ≡ None → ¬ TurnUnfinished c.turns (log_in report)
   -- each job that was taken was the first that was free
   pub in_order : TakenInOrder jobs (log_in report)
   pub closed : report.fault ≡ None → HasClosed (log_in report) (placed (start r) r.events)

@@ -7,8 +7,9 @@ ghost use Rattle.knx_top.specs.declared.ending.End.TheVariants.{Stops};
 ghost use Rattle.knx_top.specs.Call.{AtMostOneRose, Does, HasRunOf, files_of, touches};
 ghost use Rattle.knx_top.specs.Command.{Big as AskedBig, Check as AskedCheck, Decode as AskedDecode, Download as AskedDownload, Find as AskedFind, Gateway as AskedGateway, Sim as AskedSim, Tables as AskedTables, asked, command_of};
 ghost use Rattle.knx_top.specs.Ending.{Is, Replies, report_in};
-ghost use Rattle.knx_top.specs.Headline.{ActsOnce, BeganRightly, ClosesToItsEnd, EndsEveryJob, EndsThoroughly, HasFaultRight, HasOldStoppedOrNew, HasTelegramsRight, IsOfItsWorkers, IsToldRightly, LeavesItsChannel, RunsWhereDone};
+ghost use Rattle.knx_top.specs.Headline.{ActsOnce, BeganRightly, ClosesToItsEnd, EndsEveryJob, EndsThoroughly, HasFaultRight, HasLostNoTime, HasOldStoppedOrNew, HasTelegramsRight, IsOfItsWorkers, IsToldRightly, LeavesItsChannel, RunsWhereDone};
 ghost use Rattle.knx_top.specs.Ran.{FaultsOfLine};
+ghost use Rattle.knx_top.specs.Undisturbed.{EndsUndisturbed};
 ghost use Rattle.knx_top.specs.commands.Big.{BigWords, RunsMade};
 ghost use Rattle.knx_top.specs.commands.Check.{IsCountsText};
 ghost use Rattle.knx_top.specs.commands.Decode.{TellsOfFrame};
@@ -23,6 +24,7 @@ use crate::commands::{Command, asked, big, check, decode, download, find, gatewa
 use crate::ending::{End, tell, tell_end};
 use bus_sim::SimBus;
 use call_words::Status;
+use calm_law::{each_check_is_exact, nothing_fails_on_a_calm_line, undisturbing_scripts_are_calm};
 use knx_model::{Files, Sink};
 use line_model::{Dialer, Gate, Report};
 use report_text::USAGE;
@@ -51,7 +53,7 @@ fn run<R: Threads + Wait + Sync, F: Files, D: Dialer, G: Gate + Sync>(
         Command::Sim(names) => sim::call(rt, alloc, &names, files, sim, gate),
         Command::Decode(word) => decode::call(alloc, word),
         Command::Download(names) => download::call(rt, alloc, &names, files, dial, gate),
-        Command::Gateway(names) => gateway::call(alloc, names, files, sim, dial),
+        Command::Gateway(names) => gateway::call(rt, alloc, names, files, sim, dial),
         Command::Find(names) => find::call(alloc, names, dial),
         Command::Big(numbers) => big::call(rt, alloc, &numbers, sim, gate),
     }
@@ -127,6 +129,11 @@ pub fn knx<R: Threads + Wait + Sync, F: Files, K: Sink, D: Dialer, G: Gate + Syn
     ensures told { HasRunOf IsToldRightly (map string_bytes words.now) (F.now files.old) sim.old (record { line = sim.new; report = last.new }) }
     // an end is told at rest, no attempt begins once its job is decided, and the gateway is told of each loss that it doesn't know of, once
     ensures thorough { HasRunOf EndsThoroughly (map string_bytes words.now) (F.now files.old) sim.old (record { line = sim.new; report = last.new }) }
+    // it loses no time
+    ensures hastens { HasRunOf HasLostNoTime (map string_bytes words.now) (F.now files.old) sim.old (record { line = sim.new; report = last.new }) }
+    // where no line of the script disturbs, and the jobs' devices are on the line, nothing fails: unless the run breaks off each load is told done, each check
+    // done exactly where an earlier job loads its device or its device began with the new image, and each group telegram sent
+    ensures undisturbed { HasRunOf EndsUndisturbed (map string_bytes words.now) (F.now files.old) sim.old (record { line = sim.new; report = last.new }) }
     // it asks the gateway to end the open channel only when all jobs are over: then once, after the listening
     ensures leaves { HasRunOf LeavesItsChannel (map string_bytes words.now) (F.now files.old) sim.old (record { line = sim.new; report = last.new }) }
     // a run that breaks off has its cause in the record, want of memory and a failed link aside; else there is none in the end, every job has its end
@@ -148,6 +155,9 @@ pub fn knx<R: Threads + Wait + Sync, F: Files, K: Sink, D: Dialer, G: Gate + Syn
     ensures faults { AtMostOneRose (F.now files.old).faults (F.now files.new).faults }
     ensures written { (K.now out.new).writes ≡ one_more (K.now out.old).writes }
 {
+    undisturbing_scripts_are_calm();
+    nothing_fails_on_a_calm_line();
+    each_check_is_exact();
     *last = None;
     answer(rt, alloc, words, files, out, sim, dial, gate, last)
 }

@@ -6,13 +6,15 @@ ghost use Rattle.knx_top.specs.Jobs.{AreJobs, ArePlanned, IsPlanned, LoadsEach, 
 ghost use Rattle.knx_top.specs.Options.{most_jobs};
 ghost use Rattle.knx_top.specs.Stops.{is_known};
 ghost use Rattle.knx_model.specs.Device.{Fits};
+ghost use Rattle.table_compiler.specs.Images.{AreImagesOf};
 
 use call_words::{JobKind, JobWord};
 use hub_work::{CheckPlan, HubJob, JobPlan, LoadPlan};
 use knx_model::{Image, IndAddr, List, NoMemory};
 use project_check::Checked;
 use std::alloc::Global;
-use table_compiler::compile;
+use std::thread::Threads;
+use table_compiler::Images;
 
 /// Whether each job's device is one of the project's.
 pub fn are_known(project: &Checked<'_, '_>, jobs: &[JobWord]) -> bool
@@ -61,6 +63,20 @@ pub fn jobs_of(
     }
 }
 
+/// The images of the jobs' devices.
+pub fn images_for<R: Threads + Sync>(
+    rt: &R,
+    alloc: Global,
+    project: &Checked<'_, '_>,
+    jobs: &[JobWord],
+) -> Result<Images, NoMemory>
+    ensures { IfOk result (AreImagesOf project.now) }
+{
+    let devices: Vec<IndAddr> = jobs.iter().map(|job| job.device).collect(alloc)?;
+    let images = Images::of(rt, alloc, project, devices.as_slice())?;
+    Ok(images)
+}
+
 /// The plan by which a job loads or checks an image.
 fn plan_of(kind: JobKind, image: Image) -> JobPlan
     requires { Fits image }
@@ -73,27 +89,35 @@ fn plan_of(kind: JobKind, image: Image) -> JobPlan
 }
 
 /// A job with the plan of the project's image.
-fn planned(alloc: Global, project: &Checked<'_, '_>, job: JobWord) -> Result<HubJob, NoMemory>
+fn planned(
+    alloc: Global,
+    project: &Checked<'_, '_>,
+    images: &Images,
+    job: JobWord,
+) -> Result<HubJob, NoMemory>
+    requires { AreImagesOf project.now images.now }
     ensures { IfOk result (λ planned. IsPlanned project.now (seen_job planned) job) }
 {
-    let image = compile(alloc, project, job.device)?;
+    let image = images.copied(alloc, project, job.device)?;
     Ok(HubJob {
         device: job.device,
         plan: plan_of(job.kind, image),
     })
 }
 
-/// The jobs, each with its plan.
+/// The jobs, each with its plan, by images of the project's devices.
 pub fn all_planned(
     alloc: Global,
     project: &Checked<'_, '_>,
+    images: &Images,
     jobs: &[JobWord],
 ) -> Result<List<HubJob>, NoMemory>
+    requires { AreImagesOf project.now images.now }
     ensures { IfOk result (λ planned. ArePlanned project.now (map seen_job planned) jobs.now) }
 {
     let mut all = List::new(alloc);
     for job in jobs {
-        all.push(planned(alloc, project, *job)?)?;
+        all.push(planned(alloc, project, images, *job)?)?;
     }
     Ok(all)
 }

@@ -8,6 +8,7 @@ ghost use Rattle.line_model.specs.StartOf.{on_line_of_first, tunnel_address};
 ghost use Rattle.knx_top.specs.Begun.{BeginsLine};
 ghost use Rattle.knx_top.specs.Judged.{unless_strange};
 ghost use Rattle.knx_top.specs.OnLine.{AreCompiled, IsImageWhere, on_bus};
+ghost use Rattle.table_compiler.specs.Images.{AreImagesOf};
 
 use crate::project::refusal;
 use bus_sim::SimBus;
@@ -16,7 +17,8 @@ use knx_model::{Image, IndAddr, List, NoMemory};
 use project_check::Checked;
 use script_text::Script;
 use std::alloc::Global;
-use table_compiler::compile;
+use std::thread::Threads;
+use table_compiler::Images;
 
 /// The device part of a tunnel's address.
 const TUNNEL: u16 = 255;
@@ -76,39 +78,44 @@ pub fn on_bus(
     Ok(devices)
 }
 
-/// The image of a device where a project has it.
+/// The image of a device where a project has it, by images of its devices.
 fn image_in(
     alloc: Global,
     checked: &Checked<'_, '_>,
+    images: &Images,
     device: IndAddr,
 ) -> Result<Option<Image>, NoMemory>
+    requires { AreImagesOf checked.now images.now }
     ensures { IfOk result (λ image. IsImageWhere checked.now device image) }
 {
     if checked.has(device) {
-        Ok(Some(compile(alloc, checked, device)?))
+        Ok(Some(images.copied(alloc, checked, device)?))
     } else {
         Ok(None)
     }
 }
 
-/// These devices, each with its image where a project has it.
+/// These devices, each with its image where a project has it, by images of its devices.
 pub fn compiled(
     alloc: Global,
     checked: &Checked<'_, '_>,
+    images: &Images,
     devices: &[IndAddr],
 ) -> Result<List<(IndAddr, Option<Image>)>, NoMemory>
+    requires { AreImagesOf checked.now images.now }
     ensures { IfOk result (λ listed. AreCompiled checked.now listed devices.now) }
 {
     let mut listed = List::new(alloc);
     for device in devices {
-        let image = image_in(alloc, checked, *device)?;
+        let image = image_in(alloc, checked, images, *device)?;
         listed.push((*device, image))?;
     }
     Ok(listed)
 }
 
 /// The line at the beginning of a run, where the script names no device but those on the bus.
-pub fn line_begun(
+pub fn line_begun<R: Threads + Sync>(
+    rt: &R,
     alloc: Global,
     new: &Checked<'_, '_>,
     old: &Checked<'_, '_>,
@@ -119,7 +126,8 @@ pub fn line_begun(
     ensures refused { IfErr result (λ why. why ≢ OutOfMemory tt → unless_strange new.now old.now script.now.lines ≡ Err why) }
 {
     let bus = on_bus(alloc, new, old)?;
-    let devices = compiled(alloc, old, bus.as_slice())?;
+    let images = Images::of(rt, alloc, old, bus.as_slice())?;
+    let devices = compiled(alloc, old, &images, bus.as_slice())?;
     let mut line = SimBus::empty(alloc);
     match line.load(alloc, tunnel_address(new), devices.as_slice(), script) {
         Ok(()) => Ok(line),

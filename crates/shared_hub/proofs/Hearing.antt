@@ -1,5 +1,5 @@
 -- What is told heard after a call: what was told before it and what the call heard.
-use Rattle.std.proofs.Common.{◌≡◌, ◌≢◌, ℕ, List, [], ◌∷◌, ◌++◌, Option, Some, None, reverse, refl, sym, ap, subst, ◌∙◌}
+use Rattle.std.proofs.Common.{◌≡◌, ℕ, List, [], ◌∷◌, ◌++◌, Option, Some, None, reverse, refl, sym, ap, subst, ◌∙◌}
 use Rattle.std.specs.List.{cons_option}
 use Rattle.std.proofs.lemmas.List.{reverse-append}
 use Rattle.line_model.specs.declared.fault.HubFault.{HubFault}
@@ -11,9 +11,7 @@ use Rattle.line_model.specs.Record.{Entry, entries, counted, placed, record_of}
 use Rattle.line_model.specs.World.{Event}
 use Rattle.line_model.proofs.Entries.{entries_placed, entries_counted}
 use Rattle.tunnel_link.specs.Goes.{GoesOn}
-use Rattle.hub_core.specs.declared.answers.Pumped.{Pumped}
-use Rattle.hub_core.specs.declared.answers.Pumped.TheVariants as pump
-use Rattle.hub_core.specs.Hears.{HearsFew, HearsSo, heard_of}
+use Rattle.hub_core.specs.Hears.{HearsFew, HearsSo}
 use Rattle.hub_core.specs.Heard.{LeftOut, HeardOf, HeardIn}
 use Rattle.hub_core.specs.Seen.{Seen}
 use Rattle.hub_core.specs.Since.{Since}
@@ -46,12 +44,6 @@ hears_none fault m told heard s t none = by_story fault fault m m told told hear
 -- one more, which was kept or missed
 pub hears_one : (m n : ℕ) (told now : List Indication) (one : Indication) (heard : Option Indication) (s t : Story) → heard ≡ Some one → KeepsOrMisses one told now m n → GoesOn s t → HearsSo heard s t → HeardIn None m told (record_in s) → HeardIn None n now (record_in t)
 hears_one m n told now one heard s t some keeps = by_story None None m n told now heard (λ is h. rw some (subst (LeftOut n now) (sym (reverse-append (one ∷ []) is)) (keeps_one m n told now (reverse is) one h keeps))) s t
-
--- a poll that heard none
-pub none_heard : (pumped : Pumped) → ((one : Indication) → pumped ≢ pump.Heard one) → heard_of pumped ≡ None
-none_heard pump.Nothing h = refl
-none_heard pump.Moved h = refl
-none_heard (pump.Heard one) h = absurd (h one refl)
 
 -- ---- a call that failed
 

@@ -8,6 +8,7 @@ use Rattle.line_model.specs.declared.group.Indication.{Indication}
 use Rattle.line_model.specs.declared.log.LogEntry.{LogEntry}
 use Rattle.line_model.specs.declared.log.Report.{Report}
 use Rattle.line_model.specs.Headline.{IsDisciplined, KeepsFull, Keeps, IsGoodJob}
+use Rattle.line_model.specs.Haste.{LosesNoTimes}
 use Rattle.line_model.specs.Leaves.{StaysOpen, since_last, LeavesRightly}
 use Rattle.line_model.specs.LinkStory.{Story, Untold, Recorded, Full, IsNewLink, record_in, places_in}
 use Rattle.line_model.specs.Log.{Job, IsLog, OneDownloaderPerDevice, TakenInOrder, latest}
@@ -15,7 +16,7 @@ use Rattle.line_model.specs.Record.{Placed, entries, placed, counted}
 use Rattle.line_law.specs.Safe.{IsSafe, KeepsSafe, EverySafeInterleaving}
 use Rattle.hub_work.specs.Downloaders.{Task}
 use Rattle.hub_core.specs.Commissioned.{TellsRun, log_of}
-use Rattle.hub_core.specs.Promises.{FaultRightIn, IsRightOver, IsSafeOver, DropsIn, LeavesOver}
+use Rattle.hub_core.specs.Promises.{FaultRightIn, HastensIn, IsRightOver, IsSafeOver, DropsIn, LeavesOver}
 use Rattle.hub_core.specs.Thorough.{IsThorough, IsThoroughOver}
 use Rattle.hub_core.specs.Seats.{IsOfWorkers}
 use Rattle.hub_core.specs.Seen.{Seen}
@@ -50,6 +51,14 @@ new_thorough jobs Untold new = tt
 new_thorough jobs (Recorded r) new = subst (λ r. IsThorough jobs (counted r) []) (sym new) (ends_nothing jobs)
 new_thorough jobs (Full start events) new = subst (λ es. IsThorough jobs (placed start es) []) (sym new.0) (ends_nothing jobs)
 
+no_places : (s : Story) (places : List Placed) → IsNewLink s → places_in s ≡ Some places → places ≡ []
+no_places Untold places new e = absurd (let z : None ≡ Some places = e in cc)
+no_places (Recorded r) places new e = sym (some_is (counted r) places e) ∙ ap counted new
+no_places (Full start events) places new e = sym (some_is (placed start events) places e) ∙ ap (placed start) new.0
+
+new_hastens : (jobs : List Job) (turns : List GroupTurn) (s : Story) → IsNewLink s → HastensIn jobs turns [] s
+new_hastens jobs turns s new places e = subst (LosesNoTimes jobs turns []) (sym (no_places s places new e)) tt
+
 -- nothing was sent that asks anything to end
 leaves_nothing : (jobs : List Job) (turns : List GroupTurn) → LeavesRightly jobs turns [] []
 leaves_nothing jobs turns = record { unfinished = λ n. tt; finished = λ f. record { stays = tt; closes = tt } }
@@ -58,11 +67,6 @@ new_leaves : (jobs : List Job) (turns : List GroupTurn) (s : Story) → IsNewLin
 new_leaves jobs turns Untold new = tt
 new_leaves jobs turns (Recorded r) new = subst (λ r. LeavesRightly jobs turns [] (counted r)) (sym new) (leaves_nothing jobs turns)
 new_leaves jobs turns (Full start events) new = subst (λ es. LeavesRightly jobs turns [] (placed start es)) (sym new.0) (leaves_nothing jobs turns)
-
-no_places : (s : Story) (places : List Placed) → IsNewLink s → places_in s ≡ Some places → places ≡ []
-no_places Untold places new e = absurd (let z : None ≡ Some places = e in cc)
-no_places (Recorded r) places new e = sym (some_is (counted r) places e) ∙ ap counted new
-no_places (Full start events) places new e = sym (some_is (placed start events) places e) ∙ ap (placed start) new.0
 
 pub new_goes_through : {L : Type 0} (hub : Seen L) (s : Story) → IsNewLink s → hub.closing ≡ None → hub.log ≡ [] → GoesThrough hub s
 new_goes_through hub s new unbegun empty = record {
@@ -92,6 +96,7 @@ module _ (law : EverySafeInterleaving) (workers : ℕ) (tasks : List Task) (devi
         headline = λ jobs are. subst (λ (l : List LogEntry). Keeps jobs turns s l) empty (new_keeps jobs turns s new);
         safe = λ jobs are. subst (λ (l : List LogEntry). IsSafeOver jobs turns s l) empty (new_safe jobs turns s new);
         thorough = λ jobs are. subst (λ (l : List LogEntry). IsThoroughOver jobs s l) empty (new_thorough jobs s new);
+        hastens = λ jobs are. subst (λ (l : List LogEntry). HastensIn jobs turns l s) empty (new_hastens jobs turns s new);
         right = λ jobs are good. subst (λ (l : List LogEntry). IsRightOver jobs s l) empty (new_right law jobs s good new);
         fault = λ jobs are. subst (λ f. FaultRightIn jobs (log_of report) f (record_in s)) (sym fault) (no_memory jobs (log_of report) why (record_in s) wants);
         dropped = subst (λ n. DropsIn n (record_in s)) (sym none_dropped) (new_drops_none s new);

@@ -1,5 +1,5 @@
 -- What a site's type keeps, from its beginning on and by each call of its hub; and what each call adds to its list.
-use Rattle.std.proofs.Common.{◌≡◌, ◌⊎◌, inl, inr, ℕ, true, List, [], ◌∷◌, ◌++◌, length, Option, Some, None, refl, sym, ap, subst, ◌∙◌}
+use Rattle.std.proofs.Common.{◌≡◌, ◌⊎◌, inl, inr, ℕ, true, false, List, [], ◌∷◌, ◌++◌, length, Option, Some, None, refl, sym, ap, subst, ◌∙◌}
 use Rattle.std.specs.Prelude.{is_some}
 use Rattle.atomic_table.specs.Seated.{TableId}
 use Rattle.knx_model.specs.declared.address.IndAddr.{IndAddr}
@@ -9,6 +9,7 @@ use Rattle.line_model.specs.declared.group.Indication.{Indication}
 use Rattle.line_model.specs.declared.log.LogEntry.{LogEntry}
 use Rattle.line_model.specs.declared.log.LogWhat.{LogWhat}
 use Rattle.line_model.specs.Lines.{Script}
+use Rattle.line_model.specs.Leaves.{IsFinished}
 use Rattle.line_model.specs.Log.{Job, TurnUnfinished}
 use Rattle.line_model.specs.LinkStory.{Story, record_in}
 use Rattle.hub_work.specs.declared.answers.Turned.{Turned}
@@ -18,6 +19,7 @@ use Rattle.hub_work.specs.Turns as work
 use Rattle.hub_work.specs.Turns.{Adds, TurnTells}
 use Rattle.hub_core.specs.declared.answers.GroupDid.{GroupDid}
 use Rattle.hub_core.specs.declared.answers.GroupDid.TheVariants as did
+use Rattle.hub_core.specs.Left.{IsLeft}
 use Rattle.hub_core.specs.Telegrams.{GroupTells}
 use Rattle.hub_core.specs.Heard.{HeardIn}
 use Rattle.hub_core.specs.Hears.{HearsFew, HearsSo}
@@ -31,7 +33,7 @@ use Rattle.shared_hub.specs.Leaving.{GoesThrough}
 use Rattle.shared_hub.specs.Items.{log_in, HasFinished, HasTold}
 use Rattle.shared_hub.specs.Relays.{KeepsOrMisses, SameButMissed}
 use Rattle.shared_hub.specs.Sites.{SiteSeen, SiteKeeps, IsOpening, items_of}
-use Rattle.shared_hub.specs.Steps.{HasFailed, Steps, step_of, step_of_group}
+use Rattle.shared_hub.specs.Steps.{HasFailed, Steps, IsOn, GoesOn, step_of, step_of_group}
 use Rattle.shared_hub.proofs.Hearing.{hears_failed_so, hears_none_so, hears_one_so, new_hears_none}
 use Rattle.shared_hub.proofs.Items.{items_same, items_told, items_ended, ended_is, log_is}
 use Rattle.shared_hub.proofs.New.{new_goes_through}
@@ -98,27 +100,62 @@ module _ {L : Type 0} (old new : SiteSeen L) (opening : new.opening ≡ old.open
   adds_so : (at worker : ℕ) (what : LogWhat) → Adds at worker what old.hub.log new.hub.log → items_of new ≡ items_of old ++ Told (record { at = at; worker = worker; what = what }) ∷ []
   adds_so at worker what h = items_told old new opening relay (record { at = at; worker = worker; what = what }) h was is
 
-  goes_so : (at worker : ℕ) (what : LogWhat) → Adds at worker what old.hub.log new.hub.log → (items_of new ≡ items_of old) ⊎ ((e : LogEntry) × (e.worker ≡ worker) × (items_of new ≡ items_of old ++ Told e ∷ []))
-  goes_so at worker what h = inr (record { at = at; worker = worker; what = what }, refl, adds_so at worker what h)
+  tells_so : (at worker : ℕ) (what : LogWhat) → Adds at worker what old.hub.log new.hub.log → (e : LogEntry) × (e.worker ≡ worker) × (items_of new ≡ items_of old ++ Told e ∷ [])
+  tells_so at worker what h = (record { at = at; worker = worker; what = what }, refl, adds_so at worker what h)
 
   same_so : new.hub.log ≡ old.hub.log → items_of new ≡ items_of old
   same_so log = still_so old new opening relay log was is
 
   pub turn_steps : (at worker : ℕ) (turned : Turned) → TurnTells at worker turned old.hub.log new.hub.log → (turned ≡ answer.NoMore → HasFinished worker (items_of new)) → Steps (HasFinished worker) worker (items_of old) (items_of new) (step_of turned)
   turn_steps at worker (answer.Took job) told finished = (at, adds_so at worker _ told)
-  turn_steps at worker answer.Moved told finished = inl (same_so told)
+  turn_steps at worker answer.Moved told finished = same_so told
   turn_steps at worker answer.Wait told finished = same_so told
-  turn_steps at worker (answer.Done job) told finished = goes_so at worker _ told
-  turn_steps at worker (answer.Failed job) told finished = goes_so at worker _ told.1
-  turn_steps at worker (answer.Refused job) told finished = goes_so at worker _ told.3
+  turn_steps at worker (answer.Done job) told finished = tells_so at worker _ told
+  turn_steps at worker (answer.Failed job) told finished = tells_so at worker _ told.1
+  turn_steps at worker (answer.Refused job) told finished = tells_so at worker _ told.3
   turn_steps at worker answer.Later told finished = same_so told
   turn_steps at worker answer.NoMore told finished = (same_so told, subst (HasFinished worker) (same_so told) (finished refl))
 
   pub group_steps : (at k : ℕ) (did : GroupDid) → GroupTells at k did old.hub.log new.hub.log → Steps HasTold 0 (items_of old) (items_of new) (step_of_group did)
-  group_steps at k did.Put told = inl (same_so told)
+  group_steps at k did.Put told = same_so told
   group_steps at k did.Wait told = same_so told
-  group_steps at k did.Sent told = goes_so at 0 _ told
-  group_steps at k did.Lost told = goes_so at 0 _ told
+  group_steps at k did.Sent told = tells_so at 0 _ told
+  group_steps at k did.Lost told = tells_so at 0 _ told
+
+-- ---- whether the hub goes on, in which something was left
+
+module _ {L : Type 0} (old new : Seen L) (devices : new.devices ≡ old.devices) (turns : new.turns ≡ old.turns) (is : new.fault ≡ None) (left : IsLeft old) where
+  pub on_so : new.log ≡ old.log → IsOn new
+  on_so log = (is, λ all are f. left all (subst (λ ds. AreJobsOf ds all) devices are) (subst (IsFinished all old.turns) log (subst (λ ts. IsFinished all ts new.log) turns f)))
+
+  pub turn_on : (at worker : ℕ) (turned : Turned) → TurnTells at worker turned old.log new.log → GoesOn (step_of turned) new
+  turn_on at worker (answer.Took job) told = tt
+  turn_on at worker answer.Moved told = on_so told
+  turn_on at worker answer.Wait told = on_so told
+  turn_on at worker (answer.Done job) told = tt
+  turn_on at worker (answer.Failed job) told = tt
+  turn_on at worker (answer.Refused job) told = tt
+  turn_on at worker answer.Later told = on_so told
+  turn_on at worker answer.NoMore told = tt
+
+  pub group_on : (at k : ℕ) (did : GroupDid) → GroupTells at k did old.log new.log → GoesOn (step_of_group did) new
+  group_on at k did.Put told = on_so told
+  group_on at k did.Wait told = on_so told
+  group_on at k did.Sent told = tt
+  group_on at k did.Lost told = tt
+
+-- ---- one call after another in a turn
+
+pub none_of : {A : Type 0} (o : Option A) → is_some o ≡ false → o ≡ None
+none_of None e = refl
+none_of (Some x) e = absurd (let isnt : true ≡ false = e in cc)
+
+-- the list tells its origin
+pub opening_same : {L : Type 0} (a b : SiteSeen L) → items_of a ≡ items_of b → a.opening ≡ b.opening
+opening_same a b e = cc
+
+pub relay_same : {L : Type 0} (a b : SiteSeen L) → items_of a ≡ items_of b → a.relay ≡ b.relay
+relay_same a b e = cc
 
 -- ---- a worker has finished by the hub's log, and the telegrams are told by it
 

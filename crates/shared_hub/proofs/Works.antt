@@ -16,7 +16,8 @@ use Rattle.hub_core.specs.Seen.{Seen}
 use Rattle.shared_hub.specs.declared.item.Item.{Item}
 use Rattle.shared_hub.specs.declared.item.Item.TheVariants.{Told, Ended}
 use Rattle.shared_hub.specs.declared.site.Step.{Step}
-use Rattle.shared_hub.specs.declared.site.Step.TheVariants.{Took, Goes, Waits, Ready, Failed}
+use Rattle.shared_hub.specs.declared.site.Step.TheVariants.{Took, Moved, Waits, Ready, Failed}
+use Rattle.shared_hub.specs.declared.site.Step.TheVariants as step
 use Rattle.shared_hub.specs.Items.{HasFinished, IsOf}
 use Rattle.shared_hub.specs.Sites.{SiteSeen, items_of}
 use Rattle.shared_hub.specs.Steps.{HasFailed, Steps, Polls}
@@ -41,7 +42,8 @@ module _ {L : Type 0} where
 
   step_added : (is_through : List (Item L) → Type 0) (worker : ℕ) (old new : List (Item L)) (r : Step) → Steps is_through worker old new r → Added worker old new
   step_added is_through worker old new (Took job) s = one_added worker old new (Told (record { at = s.0; worker = worker; what = log.Took job })) refl s.1
-  step_added is_through worker old new Goes s = ⊎_elim (none_added worker old new) (λ h. one_added worker old new (Told h.0) h.1 h.2) s
+  step_added is_through worker old new step.Told s = one_added worker old new (Told s.0) s.1 s.2
+  step_added is_through worker old new Moved s = none_added worker old new s
   step_added is_through worker old new Waits s = none_added worker old new s
   step_added is_through worker old new Ready s = none_added worker old new s.0
   step_added is_through worker old new Failed s = fails_added worker old new s
@@ -51,7 +53,8 @@ module _ {L : Type 0} where
 
   pub step_comes : (is_through : List (Item L) → Type 0) (worker : ℕ) (old new : List (Item L)) (r : Step) → Steps is_through worker old new r → ComesTo is_through r new
   step_comes is_through worker old new (Took job) s = tt
-  step_comes is_through worker old new Goes s = tt
+  step_comes is_through worker old new step.Told s = tt
+  step_comes is_through worker old new Moved s = tt
   step_comes is_through worker old new Waits s = tt
   step_comes is_through worker old new Ready s = subst is_through (sym s.0) s.1
   step_comes is_through worker old new Failed s = s.1
@@ -59,10 +62,15 @@ module _ {L : Type 0} where
   -- a poll is a step of whoever makes it
   pub poll_steps : (is_through : List (Item L) → Type 0) (worker : ℕ) (old new : List (Item L)) (r : Step) → Polls old new r → Steps is_through worker old new r
   poll_steps is_through worker old new (Took job) s = absurd s
-  poll_steps is_through worker old new Goes s = inl s
-  poll_steps is_through worker old new Waits s = absurd s
+  poll_steps is_through worker old new step.Told s = absurd s
+  poll_steps is_through worker old new Moved s = s
+  poll_steps is_through worker old new Waits s = s
   poll_steps is_through worker old new Ready s = absurd s
   poll_steps is_through worker old new Failed s = s
+
+  -- a call after one that added nothing
+  pub steps_then : (is_through : List (Item L) → Type 0) (worker : ℕ) (old between new : List (Item L)) (r : Step) → between ≡ old → Steps is_through worker between new r → Steps is_through worker old new r
+  steps_then is_through worker old between new r same s = subst (λ (l : List (Item L)). Steps is_through worker l new r) same s
 
   -- ---- places
 

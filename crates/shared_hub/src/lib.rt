@@ -1,5 +1,5 @@
 //! Up to eight downloaders and the group thread at one hub, each in a thread of its own. The hub travels among them in a turn cell: who has the turn makes
-//! one call of it and gives it back.
+//! calls of it and gives it back.
 #![tactic(auto)]
 
 mod crew;
@@ -18,4 +18,4 @@ pub use listener::Listener;
 pub use relay::Relay;
 pub use run::commission;
 pub use seated::{listen, send_groups, work};
-pub use site::{Call, Site, Step};
+pub use site::{Site, Step};

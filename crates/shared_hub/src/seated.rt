@@ -1,4 +1,4 @@
-//! A downloader, and the group thread: each takes turns at the cell, and makes one call of the hub a turn.
+//! A downloader, and the group thread: each takes turns at the cell, and makes calls of the hub in each.
 
 ghost use Rattle.std.specs.Prelude.{◌≡◌, ◌≤◌, false};
 ghost use Rattle.shared_hub.specs.Items.{HasFinished, HasTold};
@@ -6,9 +6,10 @@ ghost use Rattle.shared_hub.specs.Works.{ComesTo, Got, IsDone, Leads, Stays};
 
 use crate::listener::Listener;
 use crate::relay::Relay;
-use crate::site::{Call, Site, Step};
+use crate::site::{Site, Step};
 use line_model::{Gate, Link};
 use std::sync::Wait;
+use std::thread::yield_now;
 use turn_cell::{Seat, Turn};
 
 /// One turn of a worker.
@@ -18,7 +19,6 @@ fn turn<R: Wait, L: Link>(
     relay: &Relay,
     seat: &mut Seat<Site<L>>,
     worker: u8,
-    call: Call,
 ) -> Step
     requires of { seat.old.cell ≡ cell.now.id }
     requires free { seat.old.turn ≡ false }
@@ -29,13 +29,13 @@ fn turn<R: Wait, L: Link>(
     ensures comes { ComesTo (HasFinished worker) result seat.new.seen }
 {
     let mut site = cell.take(rt, seat);
-    let came = site.step(rt, relay, worker, call);
+    let came = site.step(rt, relay, worker);
     cell.give(seat, site);
     came
 }
 
 /// Goes through jobs as the worker of this number, from 1, turn by turn, until each job is taken and none is his any longer, or the run has ended. The gate is
-/// passed between taking a job and starting it. A worker who has to wait polls in his next turn.
+/// passed between taking a job and starting it.
 pub fn work<R: Wait, L: Link, G: Gate>(
     rt: &R,
     cell: &Turn<Site<L>>,
@@ -52,17 +52,13 @@ pub fn work<R: Wait, L: Link, G: Gate>(
     ensures mine { Got worker seat.old seat.new }
     ensures done { IsDone (HasFinished worker) seat.new.seen }
 {
-    let mut call = Call::Step;
     for _ in rt.forever() {
-        call = match turn(rt, cell, relay, seat, worker, call) {
-            Step::Took(job) => {
-                gate.pass(job);
-                Call::Step
-            }
-            Step::Goes => Call::Step,
-            Step::Waits => Call::Poll,
+        match turn(rt, cell, relay, seat, worker) {
+            Step::Took(job) => gate.pass(job),
+            Step::Told | Step::Moved => {}
+            Step::Waits => yield_now(),
             Step::Ready | Step::Failed => return,
-        };
+        }
     }
     unreachable!()
 }
@@ -73,7 +69,6 @@ fn group_turn<R: Wait, L: Link>(
     cell: &Turn<Site<L>>,
     relay: &Relay,
     seat: &mut Seat<Site<L>>,
-    call: Call,
 ) -> Step
     requires of { seat.old.cell ≡ cell.now.id }
     requires free { seat.old.turn ≡ false }
@@ -83,7 +78,7 @@ fn group_turn<R: Wait, L: Link>(
     ensures comes { ComesTo HasTold result seat.new.seen }
 {
     let mut site = cell.take(rt, seat);
-    let came = site.tell(rt, relay, call);
+    let came = site.tell(rt, relay);
     cell.give(seat, site);
     came
 }
@@ -105,14 +100,13 @@ pub fn send_groups<R: Wait, L: Link>(
     ensures done { IsDone HasTold seat.new.seen }
     ensures listens { listener.new.router ≡ listener.old.router }
 {
-    let mut call = Call::Step;
     for _ in rt.forever() {
         listener.collect(rt, relay);
-        call = match group_turn(rt, cell, relay, seat, call) {
-            Step::Took(_) | Step::Goes => Call::Step,
-            Step::Waits => Call::Poll,
+        match group_turn(rt, cell, relay, seat) {
+            Step::Took(_) | Step::Told | Step::Moved => {}
+            Step::Waits => yield_now(),
             Step::Ready | Step::Failed => return,
-        };
+        }
     }
     unreachable!()
 }

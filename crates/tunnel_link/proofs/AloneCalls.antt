@@ -4,7 +4,7 @@ use Rattle.knx_model.specs.declared.frames.ip.IpFrame.TheVariants.{ConnectReques
 use Rattle.knx_model.specs.KnxNetIp.{Written}
 use Rattle.line_model.specs.declared.fault.HubFault.{HubFault}
 use Rattle.line_model.specs.Reading.{datagram_in, disconnect_request_in}
-use Rattle.line_model.specs.Record.{Put, Renewed, entry, Placed, entries}
+use Rattle.line_model.specs.Record.{Put, Renewed, Entry, entry, Placed, entries}
 use Rattle.line_model.specs.LinkStory.{Story, places_in, newest_time, IsTime, Renews, RenewsOrNot}
 use Rattle.line_model.specs.ClientEnd.{IsCemi, channel_put, channel_expired, channel_left}
 use Rattle.tunnel_channel.specs.Follows.{sent_by}
@@ -27,30 +27,35 @@ use Rattle.tunnel_link.proofs.Stories.{renews_goes}
 
 -- ---- a new endpoint, and its connect request
 
-renews_ends_none : (before after : Story) → Keeps before → Renews before after → Growing (Each EndsNone) before after
-renews_ends_none before after legal s old p =
-    let m = adds_more Renewed _ renews_it before after old legal s p in
-    record {
-      new = record { at = place_of after; what = entry Renewed (newest_time (entries old)) } ∷ old;
-      told = m.told;
-      added = record { at = place_of after; what = entry Renewed (newest_time (entries old)) } ∷ [];
-      grown = added_of (place_of before) (place_of after) old (record { at = place_of after; what = entry Renewed (newest_time (entries old)) } ∷ []) ((let up = m.up in omega arith), tt) (omega arith, tt);
-      is = ((λ asks. absurd (cc)), tt);
-    }
+-- P of both
+module _ (P : List Entry → Entry → Type 0) (renewed : (r : List Entry) → P r (entry Renewed (newest_time r))) (connects : (r : List Entry) → P r (entry (Put (Written ConnectRequest)) (newest_time r))) where
+  renews_each : (before after : Story) → Keeps before → Renews before after → Growing (Each P) before after
+  renews_each before after legal s old p =
+      let m = adds_more Renewed _ renews_it before after old legal s p in
+      record {
+        new = record { at = place_of after; what = entry Renewed (newest_time (entries old)) } ∷ old;
+        told = m.told;
+        added = record { at = place_of after; what = entry Renewed (newest_time (entries old)) } ∷ [];
+        grown = added_of (place_of before) (place_of after) old (record { at = place_of after; what = entry Renewed (newest_time (entries old)) } ∷ []) ((let up = m.up in omega arith), tt) (omega arith, tt);
+        is = (renewed (entries old), tt);
+      }
 
-renews_or_ends_none : (before after : Story) → Keeps before → RenewsOrNot before after → Growing (Each EndsNone) before after
-renews_or_ends_none before after legal (inl s) = renews_ends_none before after legal s
-renews_or_ends_none before after legal (inr same) = λ old p. (unmoved (Each EndsNone) before after old same p tt)
+  renews_or_each : (before after : Story) → Keeps before → RenewsOrNot before after → Growing (Each P) before after
+  renews_or_each before after legal (inl s) = renews_each before after legal s
+  renews_or_each before after legal (inr same) = λ old p. (unmoved (Each P) before after old same p tt)
+
+  pub connects_each : {X : Type 0} (r : Result X HubFault) (k new : Known) (before after : Story) → Keeps before → ConnectsSo r k new before after → Growing (Each P) before after
+  connects_each r k new before after legal (inl c) =
+      let goes = renews_goes before c.between c.renews in
+      both_each P before c.between after goes.on (sends_go_on r (Written ConnectRequest) (with_connect k c.now) new c.between after c.sends).on (renews_each before c.between legal c.renews)
+      (sends_each P r (Written ConnectRequest) (with_connect k c.now) new c.between after (goes.keeps legal) (λ old p. connects (entries old)) c.sends)
+  connects_each r k new before after legal (inr u) = renews_or_each before after legal u.renews
 
 connect_asks_not : disconnect_request_in (datagram_in (Written ConnectRequest)) ≡ None
 connect_asks_not = rw connect_read refl
 
 pub connects_ends_none : {X : Type 0} (r : Result X HubFault) (k new : Known) (before after : Story) → Keeps before → ConnectsSo r k new before after → Growing (Each EndsNone) before after
-connects_ends_none r k new before after legal (inl c) =
-    let goes = renews_goes before c.between c.renews in
-    both_each EndsNone before c.between after goes.on (sends_go_on r (Written ConnectRequest) (with_connect k c.now) new c.between after c.sends).on (renews_ends_none before c.between legal c.renews)
-    (sends_each EndsNone r (Written ConnectRequest) (with_connect k c.now) new c.between after (goes.keeps legal) (λ old p. ends_not (entries old) (Written ConnectRequest) (newest_time (entries old)) connect_asks_not) c.sends)
-connects_ends_none r k new before after legal (inr u) = renews_or_ends_none before after legal u.renews
+connects_ends_none = connects_each EndsNone (λ r asks. absurd (cc)) (λ r. ends_not r (Written ConnectRequest) (newest_time r) connect_asks_not)
 
 -- ---- a request, what is due, and the end of the channel
 

@@ -1,11 +1,14 @@
--- Within one poll no deadline is passed over: no wait goes on past it.
-use Rattle.std.proofs.Common.{◌≡◌, ℕ, ◌+◌, ◌<◌, ◌≤◌, List, [], ◌∷◌, ◌++◌, Bool, true, false, refl, subst, ap, ◌∙◌, arith}
+-- Within one poll no deadline is passed over: no wait goes on past it. Where a new endpoint is to be taken no heartbeat is, all the same.
+use Rattle.std.proofs.Common.{◌≡◌, ℕ, ◌+◌, ◌<◌, ◌≤◌, List, [], ◌∷◌, ◌++◌, Bool, true, false, refl, sym, subst, ap, ◌∙◌, arith}
 use Rattle.std.specs.Prelude.{◌&&◌}
 use Rattle.std.proofs.lemmas.Bool.{or_parts}
-use Rattle.line_model.specs.Record.{Item, Quiet, Entry, entry, Placed, entries}
+use Rattle.line_model.specs.Record.{Item, Quiet, Entry, entry, Placed, entries, is_poll}
 use Rattle.line_model.specs.LinkStory.{newest_time, AreWaits}
+use Rattle.line_model.specs.ChannelLost.{own}
+use Rattle.line_model.specs.ClientView as seen
 use Rattle.line_model.specs.ClientView.{ClientChannel, channel, after_entry}
-use Rattle.line_model.specs.Renews.{is_left, is_late, is_overdue, PollsPromptly, to_last_poll, to_poll_before}
+use Rattle.line_model.specs.Haste.{is_beat_overdue}
+use Rattle.line_model.specs.Renews.{is_left, is_late, is_overdue, is_repeat_due, is_beat_due, PollsPromptly, to_last_poll, to_poll_before}
 use Rattle.line_model.specs.ClientEnd.{ClientEnd, Idle, Seeking, Open, Leaving, JustLost, is_over}
 use Rattle.tunnel_link.specs.declared.known.Known.{Known}
 use Rattle.tunnel_link.specs.Goes.{TimesMove}
@@ -13,9 +16,11 @@ use Rattle.tunnel_link.specs.Kept as kept
 use Rattle.tunnel_link.specs.Kept.{next_due, is_over_for}
 use Rattle.tunnel_link.specs.Rights.{FitsNow, FitsRecord}
 use Rattle.tunnel_link.specs.Adds.{AllPrompt}
+use Rattle.tunnel_link.specs.Alone.{Each}
+use Rattle.tunnel_link.specs.Paces.{BeatsInTime, PollsOnce, NoPoll, Polls, PollsAndSends}
 use Rattle.tunnel_link.proofs.Deadlines.{WaitsUntil, waits_before, timely}
 use Rattle.tunnel_link.proofs.Late.{late_same, late_before, quiet_late}
-use Rattle.tunnel_link.proofs.PollParts.{PollsOnce, NoPoll, Polls, PollsAndSends, IsPolling}
+use Rattle.tunnel_link.proofs.PollParts.{IsPolling}
 use Rattle.tunnel_link.proofs.Polls.{newest_last, waits_all}
 use Rattle.tunnel_link.proofs.Times.{last_poll_time, poll_before_time, waits_rise, waits_move, first_wait}
 use Rattle.tunnel_link.proofs.Waited.{Waited, InTime, Lapsed, Unheard, none_stays}
@@ -54,63 +59,88 @@ before_waits x r q = rw q refl
 quiet_is : (p : Placed) → p.what.what ≡ Quiet → p.what ≡ entry Quiet p.what.now
 quiet_is p q = ap (λ (what : Item). entry what p.what.now) q
 
-module _ (k : Known) (old : List Placed) (f : FitsRecord k (entries old)) (moves : TimesMove (entries old)) (acted : is_late (channel (entries old)) (newest_time (entries old)) ≡ false) (sought : is_left (channel (entries old)) ≡ false)
-    (until : ℕ) (most : until ≤ newest_time (entries old) + 100) (w : WaitsUntil (next_due k) (newest_time (entries old)) until) where
+-- what isn't late is no heartbeat that is overdue
+beat_in_time : (ch : ClientChannel) (l : List Entry) → is_late ch (newest_time l) ≡ false → is_beat_overdue ch l ≡ false
+beat_in_time seen.Fresh l late = refl
+beat_in_time (seen.Sought since) l late = refl
+beat_in_time (seen.RefusedBy status) l late = refl
+beat_in_time seen.Unanswered l late = refl
+beat_in_time (seen.Open c m) [] late = refl
+beat_in_time (seen.Open c m) (x ∷ l) late = (or_parts (is_repeat_due (own c m).sent x.now) (is_beat_due c m x.now) late).1
+beat_in_time (seen.Lost c) l late = refl
+
+module _ (k : Known) (old : List Placed) (f : FitsRecord k (entries old)) (moves : TimesMove (entries old)) (acted : is_late (channel (entries old)) (newest_time (entries old)) ≡ false) (until : ℕ) (w : WaitsUntil (next_due k) (newest_time (entries old)) until) where
   record Still (ws : List Placed) : Type 0 where
     pub fits : FitsRecord k (entries (ws ++ old))
-    pub here : is_left (channel (entries (ws ++ old))) ≡ false
     pub in_time : is_late (channel (entries (ws ++ old))) (newest_time (entries (ws ++ old))) ≡ false
 
   still : (ws : List Placed) → AreWaits (newest_time (entries old)) (entries ws) → newest_time (entries (ws ++ old)) < until → Still ws
-  still [] h lt = record { fits = f; here = sought; in_time = acted }
+  still [] h lt = record { fits = f; in_time = acted }
   still (p ∷ ws) h lt =
-      let rises : newest_time (entries (ws ++ old)) < p.what.now = (let last = newest_last old ws in let up = h.1 in omega arith) in
-      let before : Still ws = still ws h.2 (omega arith) in
-      let on_time = timely k p.what.now (waits_before k (entries old) until f acted w p.what.now (let up = waits_rise old ws h.2 in omega arith) lt) in
+      let on_time = timely k p.what.now (waits_before k (entries old) until f acted w p.what.now (let up = waits_rise old ws h.2 in let rises = h.1 in let last = newest_last old ws in omega arith) lt) in
       let fits : FitsRecord k (p.what ∷ entries (ws ++ old)) = in_time_of k old (p ∷ ws) (waits_all k old (p ∷ ws) f h) on_time.0 in
-      let quiet : (p.what ≡ entry Quiet p.what.now) = quiet_is p h.0 in
-      record {
-        fits = fits;
-        here = rw quiet (stays_here k.channel (channel (entries (ws ++ old))) p.what.now before.fits.end (subst (λ (x : Entry). FitsNow k.channel (after_entry (channel (entries (ws ++ old))) x)) quiet fits.end) before.here);
-        in_time = late_same k.channel (channel (p.what ∷ entries (ws ++ old))) p.what.now fits.end ∙ on_time.1;
-      }
+      record { fits = fits; in_time = late_same k.channel (channel (p.what ∷ entries (ws ++ old))) p.what.now fits.end ∙ on_time.1 }
 
-  -- what was left at the poll before isn't left after one more wait
-  left_once : (p : Placed) (ws : List Placed) → AreWaits (newest_time (entries old)) (entries (p ∷ ws)) → p.what.now ≤ until → is_left (channel (to_last_poll (entries (ws ++ old)))) ≡ true → is_left (channel (p.what ∷ entries (ws ++ old))) ≡ false
-  left_once p [] h le left = rw (quiet_is p h.0) (first_wait (entries old) p.what.now moves sought (omega arith) left)
-  left_once p (q ∷ ws) h le left =
-      let s : Still (q ∷ ws) = still (q ∷ ws) h.2 (let up = h.1 in omega arith) in
-      let same : (to_last_poll (q.what ∷ entries (ws ++ old)) ≡ q.what ∷ entries (ws ++ old)) = last_of_waits q.what (entries (ws ++ old)) h.2.0 in
-      absurd (let none : (is_left (channel (q.what ∷ entries (ws ++ old))) ≡ false) = s.here in let some : (is_left (channel (q.what ∷ entries (ws ++ old))) ≡ true) = rw same at left in cc)
-
-  next : (ws : List Placed) → AreWaits (newest_time (entries old)) (entries ws) → newest_time (entries (ws ++ old)) ≤ until → is_overdue (channel (entries (ws ++ old))) (to_poll_before (entries (ws ++ old))) ≡ false
-  next [] h le =
-      not_overdue (channel (entries old)) (to_poll_before (entries old)) (rw sought refl)
-      (late_before (channel (entries old)) (newest_time (to_poll_before (entries old))) (newest_time (entries old)) (poll_before_time (entries old) moves) acted)
-  next (p ∷ ws) h le =
-      let r : List Entry = entries (ws ++ old) in
+  -- nothing that was late at the end of the poll before the last
+  next_late : (ws : List Placed) → AreWaits (newest_time (entries old)) (entries ws) → newest_time (entries (ws ++ old)) ≤ until → is_late (channel (entries (ws ++ old))) (newest_time (to_poll_before (entries (ws ++ old)))) ≡ false
+  next_late [] h le = late_before (channel (entries old)) (newest_time (to_poll_before (entries old))) (newest_time (entries old)) (poll_before_time (entries old) moves) acted
+  next_late (p ∷ ws) h le =
       let rises : newest_time (entries (ws ++ old)) < p.what.now = (let last = newest_last old ws in let up = h.1 in omega arith) in
       let s : Still ws = still ws h.2 (omega arith) in
       let last : newest_time (to_last_poll (entries (ws ++ old))) ≤ newest_time (entries (ws ++ old)) = last_poll_time (entries (ws ++ old)) (waits_move old ws moves h.2) in
       rw (before_waits p.what (entries (ws ++ old)) h.0)
-      (not_overdue (channel (p.what ∷ entries (ws ++ old))) (to_last_poll (entries (ws ++ old)))
-      (and_none (is_left (channel (p.what ∷ entries (ws ++ old)))) (is_left (channel (to_last_poll (entries (ws ++ old))))) (left_once p ws h le))
       (rw (quiet_is p h.0) (quiet_late (channel (entries (ws ++ old))) p.what.now (newest_time (to_last_poll (entries (ws ++ old)))) (omega arith)
-      (late_before (channel (entries (ws ++ old))) (newest_time (to_last_poll (entries (ws ++ old)))) (newest_time (entries (ws ++ old))) last s.in_time))))
+      (late_before (channel (entries (ws ++ old))) (newest_time (to_last_poll (entries (ws ++ old)))) (newest_time (entries (ws ++ old))) last s.in_time)))
 
-  next_prompt : (ws : List Placed) → AreWaits (newest_time (entries old)) (entries ws) → newest_time (entries (ws ++ old)) ≤ until → (x : Entry) → PollsPromptly (entries (ws ++ old)) x
-  next_prompt ws h le x = λ poll. next ws h le
+  -- ---- of each entry: what holds of one that is no poll, and of one more while the wait goes on
 
-  waits_prompt : (ws : List Placed) → AreWaits (newest_time (entries old)) (entries ws) → newest_time (entries (ws ++ old)) ≤ until → AllPrompt old ws
-  waits_prompt [] h le = tt
-  waits_prompt (p ∷ ws) h le =
-      let rises : newest_time (entries (ws ++ old)) ≤ until = (let last = newest_last old ws in let up = h.1 in omega arith) in
-      (next_prompt ws h.2 rises p.what, waits_prompt ws h.2 rises)
+  module _ (P : List Entry → Entry → Type 0) (sends : (r : List Entry) (x : Entry) → is_poll x.what ≡ false → P r x)
+      (next : (ws : List Placed) → AreWaits (newest_time (entries old)) (entries ws) → newest_time (entries (ws ++ old)) ≤ until → (x : Entry) → P (entries (ws ++ old)) x) where
+    waits_each : (ws : List Placed) → AreWaits (newest_time (entries old)) (entries ws) → newest_time (entries (ws ++ old)) ≤ until → Each P old ws
+    waits_each [] h le = tt
+    waits_each (p ∷ ws) h le =
+        let rises : newest_time (entries (ws ++ old)) ≤ until = (let last = newest_last old ws in let up = h.1 in omega arith) in
+        (next ws h.2 rises p.what, waits_each ws h.2 rises)
 
-  once_prompt : (rest ws : List Placed) → PollsOnce rest → AreWaits (newest_time (entries old)) (entries ws) → newest_time (entries (ws ++ old)) ≤ until → AllPrompt old (rest ++ ws)
-  once_prompt rest ws NoPoll h le = waits_prompt ws h le
-  once_prompt rest ws (Polls p) h le = (next_prompt ws h le p.what, waits_prompt ws h le)
-  once_prompt rest ws (PollsAndSends s p n) h le = ((λ poll. absurd (cc)), (next_prompt ws h le p.what, waits_prompt ws h le))
+    once_each : (rest ws : List Placed) → PollsOnce rest → AreWaits (newest_time (entries old)) (entries ws) → newest_time (entries (ws ++ old)) ≤ until → Each P old (rest ++ ws)
+    once_each rest ws NoPoll h le = waits_each ws h le
+    once_each rest ws (Polls p) h le = (next ws h le p.what, waits_each ws h le)
+    once_each rest ws (PollsAndSends s p n) h le = (sends (entries (p ∷ (ws ++ old))) s.what n, (next ws h le p.what, waits_each ws h le))
 
-  pub polling_prompt : (wait : ℕ) (added : List Placed) → until ≡ newest_time (entries old) + wait → IsPolling wait old added → AllPrompt old added
-  polling_prompt wait added same p = rw p.parts (once_prompt p.rest p.waits p.once p.times (let le = p.in_time in omega arith))
+    polling_each : (wait : ℕ) (added : List Placed) → until ≡ newest_time (entries old) + wait → IsPolling wait old added → Each P old added
+    polling_each wait added same p = rw p.parts (once_each p.rest p.waits p.once p.times (let le = p.in_time in omega arith))
+
+  pub polling_beats : (wait : ℕ) (added : List Placed) → until ≡ newest_time (entries old) + wait → IsPolling wait old added → Each BeatsInTime old added
+  polling_beats = polling_each BeatsInTime (λ r x none poll. absurd (let z : true ≡ false = sym poll ∙ none in cc)) (λ ws h le x poll. beat_in_time (channel (entries (ws ++ old))) (to_poll_before (entries (ws ++ old))) (next_late ws h le))
+
+  -- ---- and where no new endpoint was to be taken
+
+  module _ (most : until ≤ newest_time (entries old) + 100) (sought : is_left (channel (entries old)) ≡ false) where
+    here : (ws : List Placed) → AreWaits (newest_time (entries old)) (entries ws) → newest_time (entries (ws ++ old)) < until → is_left (channel (entries (ws ++ old))) ≡ false
+    here [] h lt = sought
+    here (p ∷ ws) h lt =
+        let rises : newest_time (entries (ws ++ old)) < p.what.now = (let last = newest_last old ws in let up = h.1 in omega arith) in
+        let before : Still ws = still ws h.2 (omega arith) in
+        let after : Still (p ∷ ws) = still (p ∷ ws) h lt in
+        let quiet : (p.what ≡ entry Quiet p.what.now) = quiet_is p h.0 in
+        rw quiet (stays_here k.channel (channel (entries (ws ++ old))) p.what.now before.fits.end (subst (λ (x : Entry). FitsNow k.channel (after_entry (channel (entries (ws ++ old))) x)) quiet after.fits.end) (here ws h.2 (omega arith)))
+
+    -- what was left at the poll before isn't left after one more wait
+    left_once : (p : Placed) (ws : List Placed) → AreWaits (newest_time (entries old)) (entries (p ∷ ws)) → p.what.now ≤ until → is_left (channel (to_last_poll (entries (ws ++ old)))) ≡ true → is_left (channel (p.what ∷ entries (ws ++ old))) ≡ false
+    left_once p [] h le left = rw (quiet_is p h.0) (first_wait (entries old) p.what.now moves sought (omega arith) left)
+    left_once p (q ∷ ws) h le left =
+        let still_here : is_left (channel (q.what ∷ entries (ws ++ old))) ≡ false = here (q ∷ ws) h.2 (let up = h.1 in omega arith) in
+        let same : (to_last_poll (q.what ∷ entries (ws ++ old)) ≡ q.what ∷ entries (ws ++ old)) = last_of_waits q.what (entries (ws ++ old)) h.2.0 in
+        absurd (let some : (is_left (channel (q.what ∷ entries (ws ++ old))) ≡ true) = rw same at left in cc)
+
+    next_left : (ws : List Placed) → AreWaits (newest_time (entries old)) (entries ws) → newest_time (entries (ws ++ old)) ≤ until → (is_left (channel (entries (ws ++ old))) && is_left (channel (to_poll_before (entries (ws ++ old))))) ≡ false
+    next_left [] h le = rw sought refl
+    next_left (p ∷ ws) h le =
+        rw (before_waits p.what (entries (ws ++ old)) h.0)
+        (and_none (is_left (channel (p.what ∷ entries (ws ++ old)))) (is_left (channel (to_last_poll (entries (ws ++ old))))) (left_once p ws h le))
+
+    next_prompt : (ws : List Placed) → AreWaits (newest_time (entries old)) (entries ws) → newest_time (entries (ws ++ old)) ≤ until → (x : Entry) → PollsPromptly (entries (ws ++ old)) x
+    next_prompt ws h le x = λ poll. not_overdue (channel (entries (ws ++ old))) (to_poll_before (entries (ws ++ old))) (next_left ws h le) (next_late ws h le)
+
+    pub polling_prompt : (wait : ℕ) (added : List Placed) → until ≡ newest_time (entries old) + wait → IsPolling wait old added → AllPrompt old added
+    polling_prompt = polling_each PollsPromptly (λ r x none poll. absurd (let z : true ≡ false = sym poll ∙ none in cc)) next_prompt

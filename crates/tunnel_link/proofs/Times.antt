@@ -66,7 +66,7 @@ times_told (Full start events) old k p = subst (λ (l : List Placed). TimesMove 
 
 -- ---- no time is greater than a newer one
 
-moves_up : (b : Bool) (before after : ℕ) → MovesSo b before after → before ≤ after
+pub moves_up : (b : Bool) (before after : ℕ) → MovesSo b before after → before ≤ after
 moves_up true before after m = m
 moves_up false before after m = omega arith
 

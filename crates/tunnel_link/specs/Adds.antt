@@ -15,6 +15,7 @@ use Rattle.line_model.specs.Moments.{Moment, moments}
 use Rattle.line_model.specs.Signs.{Every}
 use Rattle.line_model.specs.Renews.{is_left, is_late, PollsPromptly}
 use Rattle.line_model.specs.Asks.{HasPlace, moment_of}
+use Rattle.tunnel_link.specs.Alone.{Each}
 use Rattle.tunnel_link.specs.declared.acted.Acted.{Acted}
 use Rattle.tunnel_link.specs.declared.came.Came.{Came}
 use Rattle.tunnel_link.specs.declared.came.Loss.{Loss}
@@ -222,8 +223,7 @@ PollAdds (Err fault) old added = Fails old added
 -- ---- promptness: each poll that was added was prompt
 
 abbrev pub AllPrompt : List Placed → List Placed → Type 0
-AllPrompt old [] = Unit {0}
-AllPrompt old (p ∷ added) = PollsPromptly (entries (added ++ old)) p.what × AllPrompt old added
+AllPrompt old added = Each PollsPromptly old added
 
 -- nothing is late by the newest time
 abbrev pub HasActed : Known → Story → Type 0

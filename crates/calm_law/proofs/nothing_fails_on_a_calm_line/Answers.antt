@@ -1,5 +1,5 @@
 use Rattle.calm_law.proofs.nothing_fails_on_a_calm_line.Goals as goal
-use Rattle.calm_law.proofs.JoinedLaw.{nothing_fails, refuses_rightly, ends_well}
+use Rattle.calm_law.proofs.JoinedLaw.{nothing_fails, refuses_rightly, ends_well, no_try_fails}
 
 pub returns-clause-prompt : goal.returns-clause-prompt
 returns-clause-prompt c = nothing_fails
@@ -9,3 +9,6 @@ returns-clause-refuses c = refuses_rightly
 
 pub returns-clause-ended : goal.returns-clause-ended
 returns-clause-ended c = ends_well
+
+pub returns-clause-reached : goal.returns-clause-reached
+returns-clause-reached c = no_try_fails

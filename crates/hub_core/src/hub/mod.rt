@@ -14,7 +14,7 @@ ghost use Rattle.line_model.specs.Log.{Job, IsLog, OneDownloaderPerDevice, Taken
 ghost use Rattle.hub_work.specs.Books.{AreJobsOf};
 ghost use Rattle.hub_work.specs.Requests.{IsTurnInRange};
 ghost use Rattle.hub_work.specs.declared.job.HubJob.{HubJob as JobOfHub};
-ghost use Rattle.hub_core.specs.Promises.{DropsIn, FaultRightIn, IsRightOver, IsSafeOver, TellsIn};
+ghost use Rattle.hub_core.specs.Promises.{DropsIn, FaultRightIn, HastensIn, IsRightOver, IsSafeOver, TellsIn};
 ghost use Rattle.hub_core.specs.Seen.{AreJobs, tasks_seen};
 ghost use Rattle.hub_core.specs.Thorough.{IsThoroughOver};
 
@@ -157,7 +157,7 @@ impl<L: Link> Hub<L> {
 
     /// What its type keeps, at every moment and after a fault too, for any jobs with its devices and plans. Where its link tells something: the log is
     /// one of its jobs and telegrams, what it tells is true, and each request was right; all is kept that the line's promises need of the client, and it
-    /// polled promptly, so that it kept the client's whole discipline; it is thorough in what it ends; it has ended exactly where there is a cause; and over
+    /// polled promptly, so that it kept the client's whole discipline; it is thorough in what it ends; it lost no time; it has ended exactly where there is a cause; and over
     /// a link that tells its events and with good jobs, what the law of the line says. Over every link its log is one of its jobs and telegrams, with one downloader for each
     /// device, and each job that was taken was the first that was free.
     pub fn keeps(&self)
@@ -165,6 +165,7 @@ impl<L: Link> Hub<L> {
         ensures headline { (jobs : List Job) → AreJobs self.now.jobs jobs → Keeps jobs self.now.turns (L.story self.now.link) self.now.log }
         ensures safe { (jobs : List Job) → AreJobs self.now.jobs jobs → IsSafeOver jobs self.now.turns (L.story self.now.link) self.now.log }
         ensures thorough { (jobs : List Job) → AreJobs self.now.jobs jobs → IsThoroughOver jobs (L.story self.now.link) self.now.log }
+        ensures hastens { (jobs : List Job) → AreJobs self.now.jobs jobs → HastensIn jobs self.now.turns self.now.log (L.story self.now.link) }
         ensures right { (jobs : List Job) → AreJobs self.now.jobs jobs → AllByRecursion IsGoodJob jobs → IsRightOver jobs (L.story self.now.link) self.now.log }
         ensures fault { (jobs : List Job) → AreJobs self.now.jobs jobs → FaultRightIn jobs self.now.log self.now.fault (record_in (L.story self.now.link)) }
         ensures form { (jobs : List Job) → AreJobsOf self.now.devices jobs → IsLog jobs self.now.turns (L.place self.now.link) self.now.log }

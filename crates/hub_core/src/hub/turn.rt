@@ -9,6 +9,7 @@ ghost use Rattle.tunnel_link.specs.Adds.{Growing};
 ghost use Rattle.tunnel_link.specs.Alone.{Each, LeavesAlone};
 ghost use Rattle.hub_work.specs.declared.answers.Turned.TheVariants as answer;
 ghost use Rattle.hub_core.specs.Hears.{HearsFew, HearsSo};
+ghost use Rattle.hub_core.specs.Polls.{TellsBusy};
 ghost use Rattle.hub_core.specs.Puts.{PutsRequest};
 ghost use Rattle.hub_core.specs.Waits.{TurnWaitsExactly};
 ghost use Rattle.hub_core.specs.Seen.{StaysEnded};
@@ -60,5 +61,14 @@ impl<L: Link> Hub<L> {
                 Ok(Turned::Moved)
             }
         }
+    }
+
+    /// Whether a worker has something to do: something came for his job that he hasn't taken in, or his job, which has begun, sends or ends next.
+    pub fn is_busy(&self) -> bool
+        ensures { self.now.fault ≡ None → TellsBusy self.now.jobs self.now.turns self.now.log self.now.crew result (L.story self.now.link) }
+    {
+        let now = self.tunnel.now();
+        let has_place = self.tunnel.has_place();
+        self.work.is_busy(now, has_place)
     }
 }

@@ -13,7 +13,7 @@ ghost use Rattle.line_model.specs.Log.{IsNextTurn};
 ghost use Rattle.line_model.specs.Waiting.{longest_poll, LastsUntil};
 ghost use Rattle.hub_work.specs.Downloaders.{task_of_hub_job};
 ghost use Rattle.hub_work.specs.Follows.{BeginsRightly, TelegramIsRight, TelegramFollows, TellingFollows};
-ghost use Rattle.hub_work.specs.Polls.{does_something, deadline_at, end_of_closing, is_busy_at, IsDue, LooksOrLasts, PollsRightly};
+ghost use Rattle.hub_work.specs.Polls.{BusyRightly, does_something, deadline_at, end_of_closing, is_busy_at, IsDue, LooksOrLasts, PollsRightly, LastsOnceSent};
 ghost use Rattle.hub_work.specs.Requests.{IsTurnInRange};
 ghost use Rattle.hub_work.specs.Telegrams.{IsNextRequest, next_of};
 ghost use Rattle.hub_work.specs.Turns.{Adds, TellsTurn};
@@ -188,6 +188,7 @@ impl Work {
         ensures looks { (place : ℕ) → is_busy_at self.now now has_place place ≡ true → result ≡ 0 }
         ensures waits { ((place : ℕ) → is_busy_at self.now now has_place place ≡ false) → LastsUntil longest_poll (IsDue self.now) now result }
         ensures rightly { PollsRightly now has_place self.now result }
+        ensures sent { LastsOnceSent now has_place self.now result }
     {
         of_a_downloader();
         let mut wait = until(self.closing_deadline(), now, LONGEST_POLL_MS);
@@ -195,6 +196,31 @@ impl Work {
             wait = wait.min(self.wait_of(place, now, has_place));
         }
         wait
+    }
+
+    /// Whether a worker has something to do, where the place in flight is free or not: something came for his job that he hasn't taken in, or his job, which has
+    /// begun, sends or ends next.
+    pub fn is_busy(&self, now: u64, has_place: bool) -> bool
+        ensures rightly { BusyRightly now has_place self.now result }
+    {
+        of_a_downloader();
+        for place in 0..self.crew.len() {
+            if self.is_busy_at(place, now, has_place) {
+                return true;
+            }
+        }
+        false
+    }
+
+    /// Whether the worker at a place, from 0, has something to do.
+    fn is_busy_at(&self, place: usize, now: u64, has_place: bool) -> bool
+        ensures { result ≡ is_busy_at self.now now has_place place }
+    {
+        let Some(held) = self.crew.at(place) else {
+            return false;
+        };
+        let next = self.downloaders.next(held.job, now);
+        held.came > 0 || held.begun && does_something(&next, has_place)
     }
 
     /// When the closing's wait has passed, where it has begun.
@@ -209,17 +235,18 @@ impl Work {
     fn wait_of(&self, place: usize, now: u64, has_place: bool) -> u32
         ensures { LooksOrLasts (is_busy_at self.now now has_place place) (deadline_at self.now place) now result }
     {
-        let Some(held) = self.crew.at(place) else {
-            return until(None, now, LONGEST_POLL_MS);
-        };
-        if held.came > 0 {
+        if self.is_busy_at(place, now, has_place) {
             return 0;
         }
-        let next = self.downloaders.next(held.job, now);
-        if held.begun && does_something(&next, has_place) {
-            return 0;
-        }
-        until(self.downloaders.deadline(held.job), now, LONGEST_POLL_MS)
+        until(self.deadline_at(place), now, LONGEST_POLL_MS)
+    }
+
+    /// The nearest deadline of the job that the worker at a place, from 0, holds.
+    fn deadline_at(&self, place: usize) -> Option<u64>
+        ensures { result ≡ deadline_at self.now place }
+    {
+        let held = self.crew.at(place)?;
+        self.downloaders.deadline(held.job)
     }
 }
 

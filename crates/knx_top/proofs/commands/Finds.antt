@@ -1,5 +1,5 @@
 -- `find`: what it comes to, and what is written of it.
-use Rattle.std.proofs.Common.{◌≡◌, ◌⊎◌, None, List, Result, Ok, Err, refl, sym, subst, inl, inr}
+use Rattle.std.proofs.Common.{◌≡◌, ◌⊎◌, None, List, Result, refl, sym, subst, inl, inr}
 use Rattle.discovery.specs.declared.about.About.{About}
 use Rattle.discovery.specs.declared.inquiry.Inquiry.{Inquiry}
 use Rattle.discovery_ends.specs.Looking.{LookedOver, NotReached}

@@ -16,7 +16,7 @@ use Rattle.line_model.specs.Follows.{Follows}
 use Rattle.knx_top.specs.declared.commands.gateway.GatewayNames.{GatewayNames}
 use Rattle.knx_top.specs.declared.commands.gateway.GatewayTexts.{GatewayTexts}
 use Rattle.knx_top.specs.declared.commands.gateway.Ready.{Ready}
-use Rattle.discovery_ends.specs.Answering.{shown_story}
+use Rattle.discovery_ends.specs.Answering.{HasNoRequest, shown_story}
 use Rattle.discovery_ends.specs.Naming.{named_story}
 use Rattle.knx_top.specs.Identity.{about_gateway, own_endpoint}
 use Rattle.knx_model.specs.Meaning.{Installation}
@@ -142,6 +142,12 @@ ServesTo (over.OpenTurns used) turns began r new_port port = (used ≡ turns) ×
 ServesTo over.Failed turns began r new_port port = BreaksOff turns began r new_port port
 ServesTo (over.Unserved want) turns began r new_port port = BreaksOff turns began r new_port port ⊎ ServedSo served.OpenTurns turns began r new_port port
 
+-- it broke off, since a call of the port or of the line failed, or for want of memory
+abbrev pub IsBrokenOff : ServiceEnd → Type 0
+IsBrokenOff over.Failed = Unit {0}
+IsBrokenOff (over.Unserved want) = Unit {0}
+IsBrokenOff end = ⊥
+
 -- Of the counts of failed calls of the port and of the line, which are 0 where it begins: that it failed is told only where the port's rose, or the line's did at
 -- the last time of 64 bits, 2^64 - 1 ms after it began. Else no call of the line failed.
 abbrev pub HasCause : ServiceEnd → ℕ → BusNow → Type 0
@@ -156,8 +162,11 @@ pub record Serving (s : Service) (line : BusNow) (port : PortStory) (since after
   pub begins : BeginsLine s.before s.before s.script began
   pub new_port : PortStory
   pub new : IsNewPort new_port
-  -- how an answer failed, if one did
+  -- how an answer failed, if one did: then the serving broke off
   pub failed : Option PortFault
+  pub broke : (why : PortFault) → failed ≡ Some why → IsBrokenOff end
+  -- no request is left: each was answered at once, but for that one
+  pub answered : HasNoRequest (line_story s failed port)
   pub serves : ServesTo end s.turns began line.run new_port (line_story s failed port)
   -- the port's count of failed calls, which the dialer's takes in
   pub faults : ℕ
@@ -248,6 +257,12 @@ LineFor (Err why) ready = ⊥
 abbrev pub end_of_fault : PortFault → ServiceEnd
 end_of_fault fault.Failed = over.Failed
 end_of_fault (fault.NoMemory want) = over.Unserved want
+
+-- a serving in which an answer failed broke off so, if not otherwise
+abbrev pub unless_failed : Option PortFault → Result Served PortFault → Result Served PortFault
+unless_failed failed (Err why) = Err why
+unless_failed None (Ok as_served) = Ok as_served
+unless_failed (Some why) (Ok as_served) = Err why
 
 -- the end of a serving of at most so many turns
 abbrev pub end_of_serving : ℕ → Result Served PortFault → ServiceEnd

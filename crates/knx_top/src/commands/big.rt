@@ -77,7 +77,11 @@ pub fn big_numbers(words: &[String]) -> Option<BigNumbers>
 }
 
 /// What the run is begun with, and the counts of its project, which breaks no rule.
-fn judge(alloc: Global, numbers: &BigNumbers) -> Result<(Order, Counts), Stop>
+fn judge<R: Threads + Sync>(
+    rt: &R,
+    alloc: Global,
+    numbers: &BigNumbers,
+) -> Result<(Order, Counts), Stop>
     ensures ok { IfOk result (λ begun. OrderFor (judged_made numbers.now) begun.0) }
     ensures few { numbers.now.devices ≤ most_devices }
     ensures counts { IfOk result (λ begun. begun.1 ≡ counts_of (made numbers.now)) }
@@ -88,7 +92,7 @@ fn judge(alloc: Global, numbers: &BigNumbers) -> Result<(Order, Counts), Stop>
     let project = project_from(alloc, &names, devices, start)?;
     let models = Catalogue::empty(alloc);
     let new = sound_in(alloc, InputFile::New, &project, &models)?;
-    let order = judge_behind(alloc, &SimOptions::none(), &models, &new, &[], &[])?;
+    let order = judge_behind(rt, alloc, &SimOptions::none(), &models, &new, &[], &[])?;
     Ok((order, new.counts()))
 }
 
@@ -114,7 +118,7 @@ pub fn call<R: Threads + Wait + Sync, G: Gate + Sync>(
     ensures link { FaultsOfLine (report_in result) sim.new }
 {
     each_project_is_checked();
-    match judge(alloc, numbers) {
+    match judge(rt, alloc, numbers) {
         Ok((order, counts)) => {
             let end = run(rt, alloc, order, &SimOptions::none(), sim, gate);
             summed(end, counts)

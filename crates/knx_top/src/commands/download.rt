@@ -16,7 +16,7 @@ ghost use Rattle.knx_top.specs.commands.Project.{project_words_of};
 
 use crate::ending::{End, Reported};
 use crate::host::{GatewayAddress, address_in};
-use crate::jobs::{all_planned, are_known, jobs_of};
+use crate::jobs::{all_planned, are_known, images_for, jobs_of};
 use crate::options::{SimOptions, Workers, sim_options};
 use crate::project::{
     ProjectNames, ProjectTexts, read_in, read_project_texts, sound_in, unknown_job,
@@ -77,17 +77,24 @@ pub struct Ready {
 }
 
 /// The jobs of a run, each with its plan.
-fn ready_for(alloc: Global, named: &[JobWord], project: &Checked<'_, '_>) -> Result<Ready, NoMemory>
+fn ready_for<R: Threads + Sync>(
+    rt: &R,
+    alloc: Global,
+    named: &[JobWord],
+    project: &Checked<'_, '_>,
+) -> Result<Ready, NoMemory>
     requires { length named.now ≤ most_jobs }
     ensures { IfOk result (λ ready. IsReady project.now named.now ready) }
 {
     let jobs = jobs_of(alloc, named, project)?;
-    let plans = all_planned(alloc, project, jobs.as_slice())?;
+    let images = images_for(rt, alloc, project, jobs.as_slice())?;
+    let plans = all_planned(alloc, project, &images, jobs.as_slice())?;
     Ok(Ready { jobs, plans })
 }
 
 /// The last test, of the devices that the jobs name.
-fn judge_jobs(
+fn judge_jobs<R: Threads + Sync>(
+    rt: &R,
     alloc: Global,
     names: &DownloadNames<'_>,
     project: &Checked<'_, '_>,
@@ -99,18 +106,23 @@ fn judge_jobs(
     if !are_known(project, named) {
         return Err(unknown_job());
     }
-    let ready = ready_for(alloc, named, project)?;
+    let ready = ready_for(rt, alloc, named, project)?;
     Ok(ready)
 }
 
 /// What was read is judged in order: the catalogue, NEW, then the devices of the jobs.
-fn judge(alloc: Global, names: &DownloadNames<'_>, texts: &ProjectTexts) -> Result<Ready, Stop>
+fn judge<R: Threads + Sync>(
+    rt: &R,
+    alloc: Global,
+    names: &DownloadNames<'_>,
+    texts: &ProjectTexts,
+) -> Result<Ready, Stop>
     ensures ok { IfOk result (λ ready. ReadyFor (judged_download (download_words_of names.now) texts.now) ready) }
     ensures err { IfErr result (λ why. why ≢ OutOfMemory tt → judged_download (download_words_of names.now) texts.now ≡ Err why) }
 {
     let read = read_in(alloc, names.project(), texts)?;
     let checked = sound_in(alloc, InputFile::New, &read.project, &read.models)?;
-    let ready = judge_jobs(alloc, names, &checked)?;
+    let ready = judge_jobs(rt, alloc, names, &checked)?;
     Ok(ready)
 }
 
@@ -193,7 +205,7 @@ fn download<R: Threads + Wait + Sync, D: Dialer, G: Gate + Sync>(
 ) -> End
     ensures { DialsOr (judged_download (download_words_of names.now) texts.now) (D.now dial.old) (D.now dial.new) result }
 {
-    match judge(alloc, names, texts) {
+    match judge(rt, alloc, names, texts) {
         Ok(ready) => dial_and_run(rt, alloc, names, ready, dial, gate),
         Err(why) => End::Stops(why),
     }

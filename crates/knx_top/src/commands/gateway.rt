@@ -7,7 +7,7 @@ ghost use Rattle.line_model.specs.PortStory.{IsNewPort};
 ghost use Rattle.knx_top.specs.Ending.{Is, report_in};
 ghost use Rattle.knx_top.specs.Input.{OnlyRose};
 ghost use Rattle.knx_top.specs.Names.{address_of};
-ghost use Rattle.knx_top.specs.commands.Gateway.{GatewayIsRead, IsLineOf, LineFor, RunsGateway, Serves, ServesOr, Service, Serving, end_of_fault, end_of_serving, failed_of_gateway, files_of_gateway, gateway_words, gateway_words_of, judged_gateway, turns_value, with_lines};
+ghost use Rattle.knx_top.specs.commands.Gateway.{GatewayIsRead, IsLineOf, LineFor, RunsGateway, Serves, ServesOr, Service, Serving, end_of_fault, end_of_serving, failed_of_gateway, files_of_gateway, gateway_words, gateway_words_of, judged_gateway, turns_value, unless_failed, with_lines};
 
 use crate::ending::{End, ServiceEnd};
 use crate::host::{GatewayAddress, address_in};
@@ -24,6 +24,7 @@ use line_model::{Dialer, PortFault};
 use project_check::Checked;
 use script_text::Script;
 use std::alloc::Global;
+use std::thread::Threads;
 
 /// The most turns that a gateway serves.
 const MOST_TURNS: u32 = 1_000_000_000;
@@ -101,7 +102,8 @@ pub struct Ready {
 }
 
 /// The last test, of the devices that a script names, and the line that begins.
-fn judge_script(
+fn judge_script<R: Threads + Sync>(
+    rt: &R,
     alloc: Global,
     names: GatewayNames<'_>,
     old: &Checked<'_, '_>,
@@ -110,13 +112,18 @@ fn judge_script(
     ensures ok { IfOk result (λ ready. LineFor (with_lines (gateway_words_of names.entry) old.now script.now.lines) ready) }
     ensures err { IfErr result (λ why. why ≢ OutOfMemory tt → with_lines (gateway_words_of names.entry) old.now script.now.lines ≡ Err why) }
 {
-    let line = line_begun(alloc, old, &*old, script)?;
+    let line = line_begun(rt, alloc, old, &*old, script)?;
     let tunnel = tunnel_address(old);
     Ok(Ready { line, tunnel })
 }
 
 /// What was read is judged in order: the catalogue, OLD, then the script and its devices.
-fn judge(alloc: Global, names: GatewayNames<'_>, texts: &GatewayTexts) -> Result<Ready, Stop>
+fn judge<R: Threads + Sync>(
+    rt: &R,
+    alloc: Global,
+    names: GatewayNames<'_>,
+    texts: &GatewayTexts,
+) -> Result<Ready, Stop>
     ensures ok { IfOk result (λ ready. LineFor (judged_gateway (gateway_words_of names.entry) texts.now) ready) }
     ensures err { IfErr result (λ why. why ≢ OutOfMemory tt → judged_gateway (gateway_words_of names.entry) texts.now ≡ Err why) }
 {
@@ -127,8 +134,22 @@ fn judge(alloc: Global, names: GatewayNames<'_>, texts: &GatewayTexts) -> Result
     let old = project_in(alloc, InputFile::Old, old)?;
     let old = sound_in(alloc, InputFile::Old, &old, &models)?;
     let script = script_in(alloc, script)?;
-    let ready = judge_script(alloc, names, &old, &script)?;
+    let ready = judge_script(rt, alloc, names, &old, &script)?;
     Ok(ready)
+}
+
+/// A serving in which an answer failed broke off so, if not otherwise.
+fn unless_failed(
+    failed: Option<PortFault>,
+    served: Result<Served, PortFault>,
+) -> Result<Served, PortFault>
+    ensures { result ≡ unless_failed failed served }
+{
+    let served = served?;
+    match failed {
+        Some(fault) => Err(fault),
+        None => Ok(served),
+    }
 }
 
 /// The end of a serving that broke off so.
@@ -172,10 +193,11 @@ fn serve<D: Dialer>(
     let mut line = line;
     let mut door = Answerer::new(door, own_endpoint(names.at), about_gateway(tunnel));
     let served = line.serve(alloc, &mut door, names.turns);
+    let ended = unless_failed(door.failed(), served);
     line.keeps();
     dial.shut(door.back());
     *sim = line;
-    end_of_serving(names.turns, served)
+    end_of_serving(names.turns, ended)
 }
 
 /// Binds the port, and serves a line there.
@@ -196,7 +218,8 @@ fn bind_and_serve<D: Dialer>(
 }
 
 /// Judges what was read, and serves what it asks for.
-fn gateway<D: Dialer>(
+fn gateway<R: Threads + Sync, D: Dialer>(
+    rt: &R,
     alloc: Global,
     names: GatewayNames<'_>,
     texts: &GatewayTexts,
@@ -205,14 +228,15 @@ fn gateway<D: Dialer>(
 ) -> End
     ensures { ServesOr (judged_gateway (gateway_words_of names.entry) texts.now) (D.now dial.old) (D.now dial.new) sim.old sim.new result }
 {
-    match judge(alloc, names, texts) {
+    match judge(rt, alloc, names, texts) {
         Ok(ready) => bind_and_serve(alloc, names, ready, sim, dial),
         Err(why) => End::Stops(why),
     }
 }
 
 /// A call of `gateway`.
-pub fn call<F: Files, D: Dialer>(
+pub fn call<R: Threads + Sync, F: Files, D: Dialer>(
+    rt: &R,
     alloc: Global,
     names: GatewayNames<'_>,
     files: &mut F,
@@ -225,5 +249,5 @@ pub fn call<F: Files, D: Dialer>(
     ensures no_run { report_in result ≡ None }
 {
     let texts = read_gateway_texts(alloc, files, names);
-    gateway(alloc, names, &texts, sim, dial)
+    gateway(rt, alloc, names, &texts, sim, dial)
 }

@@ -4,17 +4,18 @@ ghost use Rattle.std.specs.Prelude.{◌≡◌, None};
 ghost use Rattle.line_model.specs.Log.{IsNextTurn};
 ghost use Rattle.shared_hub.specs.Items.{HasTold};
 ghost use Rattle.shared_hub.specs.Sites.{items_of};
-ghost use Rattle.shared_hub.specs.Steps.{Steps, step_of_group};
+ghost use Rattle.shared_hub.specs.Steps.{GoesOn, Steps, step_of_group};
 
-use super::{Call, Site, Step};
+use super::{Site, Step};
 use crate::relay::Relay;
 use hub_core::GroupDid;
 use line_model::Link;
 use std::sync::Wait;
 
 impl<L: Link> Site<L> {
-    /// A turn of the group thread: one call of the hub, which is the next telegram's next step or a poll; none where all telegrams are told.
-    pub fn tell<R: Wait>(&mut self, rt: &R, relay: &Relay, call: Call) -> Step
+    /// A turn of the group thread: the next telegram's next step and, where it has to wait and no worker has something to do, a poll; nothing where all telegrams
+    /// are told.
+    pub fn tell<R: Wait>(&mut self, rt: &R, relay: &Relay) -> Step
         requires of { self.old.relay.value ≡ relay.now }
         ensures { Steps HasTold 0 (items_of self.old) (items_of self.new) result }
     {
@@ -24,9 +25,9 @@ impl<L: Link> Site<L> {
         let Some(k) = self.hub.next_group() else {
             return Step::Ready;
         };
-        match call {
-            Call::Step => self.send(k),
-            Call::Poll => self.poll(rt, relay),
+        match self.send(k) {
+            Step::Waits if !self.hub.is_busy() => self.poll(rt, relay),
+            came => came,
         }
     }
 
@@ -34,7 +35,8 @@ impl<L: Link> Site<L> {
     fn send(&mut self, k: u32) -> Step
         requires stands { self.old.hub.fault ≡ None }
         requires next { IsNextTurn self.old.hub.turns self.old.hub.log k }
-        ensures { Steps HasTold 0 (items_of self.old) (items_of self.new) result }
+        ensures steps { Steps HasTold 0 (items_of self.old) (items_of self.new) result }
+        ensures on { GoesOn result self.new.hub }
     {
         self.hub.keeps();
         let Ok(did) = self.hub.send_group(k) else {
@@ -50,6 +52,7 @@ fn step_of(did: GroupDid) -> Step
 {
     match did {
         GroupDid::Wait => Step::Waits,
-        GroupDid::Put | GroupDid::Sent | GroupDid::Lost => Step::Goes,
+        GroupDid::Put => Step::Moved,
+        GroupDid::Sent | GroupDid::Lost => Step::Told,
     }
 }

@@ -19,23 +19,16 @@ use std::snapshot::Snapshot;
 use telegram_router::Feed;
 use turn_cell::Logged;
 
-/// What the holder of a seat does in his turn.
-#[derive(Clone, Copy, Drop)]
-pub enum Call {
-    /// His next step.
-    Step,
-    /// A poll, since his last step had to wait.
-    Poll,
-}
-
 /// What a turn came to.
 #[derive(Clone, Copy, Drop)]
 pub enum Step {
     /// The worker holds this job from now on.
     Took(u32),
+    /// A job has ended, or a group telegram is told.
+    Told,
     /// Something was done.
-    Goes,
-    /// Nothing could be done before something comes.
+    Moved,
+    /// Nothing could be done before something comes, or before another caller's turn.
     Waits,
     /// Nothing is left for this caller.
     Ready,

@@ -1,20 +1,23 @@
 //! A worker's turn.
 
-ghost use Rattle.std.specs.Prelude.{◌≡◌, ◌≤◌, None, length};
-ghost use Rattle.hub_core.specs.Left.{IsLeft};
+ghost use Rattle.std.specs.Prelude.{◌≡◌, ◌≤◌, length};
 ghost use Rattle.shared_hub.specs.Items.{HasFinished};
 ghost use Rattle.shared_hub.specs.Sites.{items_of};
-ghost use Rattle.shared_hub.specs.Steps.{Steps, step_of};
+ghost use Rattle.shared_hub.specs.Steps.{GoesOn, IsOn, Steps, step_of};
 
-use super::{Call, Site, Step};
+use super::{Site, Step};
 use crate::relay::Relay;
 use hub_core::Turned;
 use line_model::Link;
 use std::sync::Wait;
 
+/// So many calls of the hub one turn makes at most, so that each who waits for a turn gets it soon.
+const CALLS: u32 = 64;
+
 impl<L: Link> Site<L> {
-    /// A worker's turn, from 1: one call of the hub, which is his next step or a poll; none where all is over.
-    pub fn step<R: Wait>(&mut self, rt: &R, relay: &Relay, worker: u8, call: Call) -> Step
+    /// A worker's turn, from 1: he goes on as long as each call of the hub does something and no job is taken or ends, at most for so many calls; none is made
+    /// where all is over.
+    pub fn step<R: Wait>(&mut self, rt: &R, relay: &Relay, worker: u8) -> Step
         requires from_1 { 1 ≤ worker }
         requires within { worker ≤ length self.old.opening.value.crew }
         requires of { self.old.relay.value ≡ relay.now }
@@ -27,9 +30,27 @@ impl<L: Link> Site<L> {
         if !self.hub.has_work_left() {
             return Step::Ready;
         }
-        match call {
-            Call::Step => self.work(worker),
-            Call::Poll => self.poll(rt, relay),
+        for _ in 0..CALLS {
+            let came = self.call(rt, relay, worker);
+            let Step::Moved = came else {
+                return came;
+            };
+        }
+        Step::Moved
+    }
+
+    /// A worker's next step, while something is left; where he has to wait and no other has something to do, a poll.
+    fn call<R: Wait>(&mut self, rt: &R, relay: &Relay, worker: u8) -> Step
+        requires from_1 { 1 ≤ worker }
+        requires within { worker ≤ length self.old.opening.value.crew }
+        requires of { self.old.relay.value ≡ relay.now }
+        requires on { IsOn self.old.hub }
+        ensures steps { Steps (HasFinished worker) worker (items_of self.old) (items_of self.new) result }
+        ensures on { GoesOn result self.new.hub }
+    {
+        match self.work(worker) {
+            Step::Waits if !self.hub.is_busy() => self.poll(rt, relay),
+            came => came,
         }
     }
 
@@ -37,9 +58,9 @@ impl<L: Link> Site<L> {
     fn work(&mut self, worker: u8) -> Step
         requires from_1 { 1 ≤ worker }
         requires within { worker ≤ length self.old.opening.value.crew }
-        requires stands { self.old.hub.fault ≡ None }
-        requires left { IsLeft self.old.hub }
-        ensures { Steps (HasFinished worker) worker (items_of self.old) (items_of self.new) result }
+        requires on { IsOn self.old.hub }
+        ensures steps { Steps (HasFinished worker) worker (items_of self.old) (items_of self.new) result }
+        ensures on { GoesOn result self.new.hub }
     {
         self.hub.keeps();
         let Ok(turned) = self.hub.turn(worker) else {
@@ -55,7 +76,8 @@ fn step_of(turned: Turned) -> Step
 {
     match turned {
         Turned::Took(job) => Step::Took(job),
-        Turned::Moved | Turned::Done(_) | Turned::Failed(_) | Turned::Refused(_) => Step::Goes,
+        Turned::Done(_) | Turned::Failed(_) | Turned::Refused(_) => Step::Told,
+        Turned::Moved => Step::Moved,
         Turned::Wait | Turned::Later => Step::Waits,
         Turned::NoMore => Step::Ready,
     }

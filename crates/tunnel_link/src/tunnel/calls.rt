@@ -9,6 +9,7 @@ ghost use Rattle.tunnel_link.specs.Rights.{FailsWhere, IsOfTunnel, WhereTold};
 ghost use Rattle.tunnel_link.specs.Adds.{Growing, place_of, Seeks, PutsOne, Leaves, Dues, Acts, PollAdds, AllPrompt, HasActed, Ready};
 ghost use Rattle.tunnel_link.specs.Kept.{with_due};
 ghost use Rattle.tunnel_link.specs.Lasts.{LastsRightly};
+ghost use Rattle.tunnel_link.specs.Paces.{BeatsInTime, PollsWithin, TakesNoTime};
 ghost use Rattle.tunnel_link.specs.declared.came.Loss.TheVariants.{Stays};
 
 use super::Tunnel;
@@ -33,7 +34,7 @@ impl<L: Link> Tunnel<L> {
         ensures script { L.script self.new.link ≡ L.script self.old.link }
         ensures cause { self.old.known.fault ≡ None → IfErr result (λ fault. FailsWhere fault (L.faults self.old.link) (L.faults self.new.link)) }
         ensures alone { Growing (Each EndsNone) (L.story self.old.link) (L.story self.new.link) }
-        ensures prompt { Growing AllPrompt (L.story self.old.link) (L.story self.new.link) }
+        ensures timeless { Growing (Each TakesNoTime) (L.story self.old.link) (L.story self.new.link) }
         ensures ready { OnOk result (HasActed self.old.known (L.story self.old.link) → Ready self.new.known (L.story self.new.link)) }
     {
         self.known.standing()?;
@@ -59,7 +60,7 @@ impl<L: Link> Tunnel<L> {
         ensures script { L.script self.new.link ≡ L.script self.old.link }
         ensures cause { self.old.known.fault ≡ None → IfErr result (λ fault. FailsWhere fault (L.faults self.old.link) (L.faults self.new.link)) }
         ensures alone { Growing (Each LeavesAlone) (L.story self.old.link) (L.story self.new.link) }
-        ensures prompt { Growing AllPrompt (L.story self.old.link) (L.story self.new.link) }
+        ensures timeless { Growing (Each TakesNoTime) (L.story self.old.link) (L.story self.new.link) }
     {
         self.known.standing()?;
         let now = self.link.now();
@@ -83,7 +84,7 @@ impl<L: Link> Tunnel<L> {
         ensures script { L.script self.new.link ≡ L.script self.old.link }
         ensures cause { self.old.known.fault ≡ None → IfErr result (λ fault. FailsWhere fault (L.faults self.old.link) (L.faults self.new.link)) }
         ensures alone { Growing SendsOnce (L.story self.old.link) (L.story self.new.link) }
-        ensures prompt { Growing AllPrompt (L.story self.old.link) (L.story self.new.link) }
+        ensures timeless { Growing (Each TakesNoTime) (L.story self.old.link) (L.story self.new.link) }
     {
         self.known.standing()?;
         match self.known.leaves() {
@@ -110,7 +111,7 @@ impl<L: Link> Tunnel<L> {
         ensures script { L.script self.new.link ≡ L.script self.old.link }
         ensures cause { self.old.known.fault ≡ None → IfErr result (λ fault. FailsWhere fault (L.faults self.old.link) (L.faults self.new.link)) }
         ensures alone { Growing (Each LeavesAlone) (L.story self.old.link) (L.story self.new.link) }
-        ensures prompt { Growing AllPrompt (L.story self.old.link) (L.story self.new.link) }
+        ensures timeless { Growing (Each TakesNoTime) (L.story self.old.link) (L.story self.new.link) }
         ensures acted { OnOk result (HasActed self.new.known (L.story self.new.link)) }
     {
         self.known.standing()?;
@@ -159,7 +160,7 @@ impl<L: Link> Tunnel<L> {
         ensures script { L.script self.new.link ≡ L.script self.old.link }
         ensures cause { IfErr result (λ fault. FailsWhere fault (L.faults self.old.link) (L.faults self.new.link)) }
         ensures alone { Growing (Each LeavesAlone) (L.story self.old.link) (L.story self.new.link) }
-        ensures prompt { Growing AllPrompt (L.story self.old.link) (L.story self.new.link) }
+        ensures timeless { Growing (Each TakesNoTime) (L.story self.old.link) (L.story self.new.link) }
         ensures known { OnOk result (self.new.known ≡ with_due self.old.known now) }
     {
         match self.known.due(now) {
@@ -171,8 +172,9 @@ impl<L: Link> Tunnel<L> {
         }
     }
 
-    /// One poll of at most so many milliseconds, never more than 100, and not past a deadline. A request that was got is acknowledged at once, and a loss of the
-    /// channel answered. Where nothing is due when it begins, no deadline is passed over in it.
+    /// One poll of at most so many milliseconds, never more than 100, and not past a deadline, also where it fails. A request that was got is acknowledged at
+    /// once, and a loss of the channel answered. Where nothing is due when it begins, no deadline is passed over in it; and no heartbeat where none was due,
+    /// though a new endpoint was to be taken.
     pub fn poll(&mut self, longest_ms: u32) -> Result<Came, HubFault>
         ensures grows { GoesOn (L.story self.old.link) (L.story self.new.link) }
         ensures adds { Growing (PollAdds result) (L.story self.old.link) (L.story self.new.link) }
@@ -187,6 +189,8 @@ impl<L: Link> Tunnel<L> {
         ensures cause { self.old.known.fault ≡ None → IfErr result (λ fault. FailsWhere fault (L.faults self.old.link) (L.faults self.new.link)) }
         ensures alone { Growing (Each LeavesAlone) (L.story self.old.link) (L.story self.new.link) }
         ensures prompt { Ready self.old.known (L.story self.old.link) → Growing AllPrompt (L.story self.old.link) (L.story self.new.link) }
+        ensures beats { HasActed self.old.known (L.story self.old.link) → Growing (Each BeatsInTime) (L.story self.old.link) (L.story self.new.link) }
+        ensures within { Growing (PollsWithin longest_ms) (L.story self.old.link) (L.story self.new.link) }
         ensures lasts { HasActed self.old.known (L.story self.old.link) → OnOk result (Growing (LastsRightly longest_ms) (L.story self.old.link) (L.story self.new.link)) }
     {
         frames_are_read();

@@ -1,6 +1,8 @@
-use Rattle.knx_top.specs.Headline.{BeganRightly, HasOldStoppedOrNew, HasTelegramsRight, RunsWhereDone, ActsOnce, IsToldRightly, EndsThoroughly, LeavesItsChannel, HasFaultRight, EndsEveryJob, ClosesToItsEnd, IsOfItsWorkers}
+use Rattle.knx_top.specs.Headline.{BeganRightly, HasOldStoppedOrNew, HasTelegramsRight, RunsWhereDone, ActsOnce, IsToldRightly, EndsThoroughly, HasLostNoTime, LeavesItsChannel, HasFaultRight, EndsEveryJob, ClosesToItsEnd, IsOfItsWorkers}
 use Rattle.knx_top.proofs.Calls.{usage_of, check_of, tables_of, decode_of, sim_of, big_of, link_of, download_of, gateway_of, find_of, line_of, no_run_of, faults_in, ran_of}
 use Rattle.knx_top.proofs.Promised as promised
+use Rattle.knx_top.proofs.Undisturbed.{Laws, ends_undisturbed}
+use Rattle.knx_top.specs.Undisturbed.{EndsUndisturbed}
 use Rattle.knx_top.proofs.call.knx.Goals as goal
 
 pub returns-clause-usage : goal.returns-clause-usage
@@ -62,6 +64,20 @@ returns-clause-told g c = ran_of IsToldRightly promised.told_rightly _ _ _ _ c.a
 
 pub returns-clause-thorough : goal.returns-clause-thorough
 returns-clause-thorough g c = ran_of EndsThoroughly promised.ends_thoroughly _ _ _ _ c.answer.ensures.does
+
+pub returns-clause-hastens : goal.returns-clause-hastens
+returns-clause-hastens g c = ran_of HasLostNoTime promised.lost_no_time _ _ _ _ c.answer.ensures.does
+
+pub returns-clause-undisturbed : goal.returns-clause-undisturbed
+returns-clause-undisturbed g c =
+    let laws : Laws = record {
+      calm = c.undisturbing_scripts_are_calm.ensures;
+      prompt = c.nothing_fails_on_a_calm_line.ensures.prompt;
+      refuses = c.nothing_fails_on_a_calm_line.ensures.refuses;
+      ended = c.nothing_fails_on_a_calm_line.ensures.ended;
+      checks = c.each_check_is_exact.ensures;
+    } in
+    ran_of EndsUndisturbed (ends_undisturbed laws) _ _ _ _ c.answer.ensures.does
 
 pub returns-clause-leaves : goal.returns-clause-leaves
 returns-clause-leaves g c = ran_of LeavesItsChannel promised.leaves_its_channel _ _ _ _ c.answer.ensures.does

@@ -21,6 +21,8 @@ use line_model::GroupTurn;
 use project_check::Checked;
 use script_text::Script;
 use std::alloc::Global;
+use std::thread::Threads;
+use table_compiler::Images;
 
 /// All that a run is begun with.
 #[derive(Drop)]
@@ -38,7 +40,8 @@ pub struct Order {
 }
 
 /// What a run is begun with, over a line that has begun.
-fn order_of(
+fn order_of<R: Threads + Sync>(
+    rt: &R,
     alloc: Global,
     named: &[JobWord],
     new: &Checked<'_, '_>,
@@ -51,10 +54,11 @@ fn order_of(
     ensures prepared { IfOk result (λ order. IsPrepared new.now old.now script.now.lines named.now order) }
 {
     let jobs = jobs_of(alloc, named, new)?;
-    let plans = all_planned(alloc, new, jobs.as_slice())?;
-    let turns = turns_of(alloc, script)?;
     let bus = on_bus(alloc, new, old)?;
-    let devices = compiled(alloc, new, bus.as_slice())?;
+    let images = Images::of(rt, alloc, new, bus.as_slice())?;
+    let plans = all_planned(alloc, new, &images, jobs.as_slice())?;
+    let turns = turns_of(alloc, script)?;
+    let devices = compiled(alloc, new, &images, bus.as_slice())?;
     Ok(Order {
         line,
         jobs,
@@ -65,7 +69,8 @@ fn order_of(
 }
 
 /// The last test, of the devices that the jobs name, over a line that has begun.
-fn judge_jobs(
+fn judge_jobs<R: Threads + Sync>(
+    rt: &R,
     alloc: Global,
     options: &SimOptions<'_>,
     new: &Checked<'_, '_>,
@@ -82,12 +87,13 @@ fn judge_jobs(
     if !are_known(new, named) {
         return Err(unknown_job());
     }
-    let order = order_of(alloc, named, new, old, script, line)?;
+    let order = order_of(rt, alloc, named, new, old, script, line)?;
     Ok(order)
 }
 
 /// The tests of a script and of the devices that it and the jobs name.
-fn judge_script(
+fn judge_script<R: Threads + Sync>(
+    rt: &R,
     alloc: Global,
     options: &SimOptions<'_>,
     new: &Checked<'_, '_>,
@@ -97,14 +103,15 @@ fn judge_script(
     ensures ok { IfOk result (λ order. OrderFor (with_lines (options_of options.now) new.now old.now script.now.lines) order) }
     ensures err { IfErr result (λ why. why ≢ OutOfMemory tt → with_lines (options_of options.now) new.now old.now script.now.lines ≡ Err why) }
 {
-    match line_begun(alloc, new, old, script) {
-        Ok(line) => judge_jobs(alloc, options, new, old, script, line),
+    match line_begun(rt, alloc, new, old, script) {
+        Ok(line) => judge_jobs(rt, alloc, options, new, old, script, line),
         Err(why) => Err(why),
     }
 }
 
 /// What is behind NEW is judged: OLD, then the script and its devices, and the devices of the jobs.
-pub fn judge_behind(
+pub fn judge_behind<R: Threads + Sync>(
+    rt: &R,
     alloc: Global,
     options: &SimOptions<'_>,
     models: &Catalogue,
@@ -118,12 +125,17 @@ pub fn judge_behind(
     let old = project_in(alloc, InputFile::Old, old)?;
     let old = sound_in(alloc, InputFile::Old, &old, models)?;
     let script = script_in(alloc, script)?;
-    let order = judge_script(alloc, options, new, &old, &script)?;
+    let order = judge_script(rt, alloc, options, new, &old, &script)?;
     Ok(order)
 }
 
 /// What a run is begun with, or why the call stops before one.
-pub fn judge(alloc: Global, names: &SimNames<'_>, texts: &SimTexts) -> Result<Order, Stop>
+pub fn judge<R: Threads + Sync>(
+    rt: &R,
+    alloc: Global,
+    names: &SimNames<'_>,
+    texts: &SimTexts,
+) -> Result<Order, Stop>
     ensures ok { IfOk result (λ order. OrderFor (judged (sim_words_of names.now) texts.now) order) }
     ensures err { IfErr result (λ why. why ≢ OutOfMemory tt → judged (sim_words_of names.now) texts.now ≡ Err why) }
 {
@@ -134,6 +146,6 @@ pub fn judge(alloc: Global, names: &SimNames<'_>, texts: &SimTexts) -> Result<Or
     let models = models_in(alloc, &texts.catalogue)?;
     let new = project_in(alloc, InputFile::New, new)?;
     let new = sound_in(alloc, InputFile::New, &new, &models)?;
-    let order = judge_behind(alloc, &names.options, &models, &new, old, script)?;
+    let order = judge_behind(rt, alloc, &names.options, &models, &new, old, script)?;
     Ok(order)
 }

@@ -110,7 +110,7 @@ pub fn commission<R: Threads + Wait + Sync, G: Gate + Sync>(
     ensures comes { Comes (judged (sim_words_of names.now) texts.now) sim.old sim.new result }
     ensures link { FaultsOfLine (report_in result) sim.new }
 {
-    match judge(alloc, names, texts) {
+    match judge(rt, alloc, names, texts) {
         Ok(order) => run(rt, alloc, order, &names.options, sim, gate),
         Err(why) => End::Stops(why),
     }

@@ -40,8 +40,8 @@ loop-preserved-in-Took g c = record {
   got = got_again c.args.worker _ _ _ c.loop.invariant.got c.turn.ensures.got c.turn.ensures.seat.sees;
 }
 
-pub loop-preserved-in-Goes : goal.loop-preserved-in-Goes
-loop-preserved-in-Goes g c = record {
+pub loop-preserved-in-Told : goal.loop-preserved-in-Told
+loop-preserved-in-Told g c = record {
   next = tt;
   finite = tt;
   stays = stays_again _ _ _ c.loop.invariant.stays c.turn.ensures.seat;

@@ -1,7 +1,8 @@
-use Rattle.std.proofs.Common.{◌≡◌, None, refl}
+use Rattle.std.proofs.Common.{◌≡◌, false, None, refl}
 use Rattle.hub_core.proofs.Calls.{acts_failed, acts_done}
 use Rattle.hub_core.proofs.Keeps.{none_inside}
-use Rattle.hub_core.proofs.Prompting.{prompts_told}
+use Rattle.hub_core.proofs.Hastening.{asked_after, hastens_alone, opens_by}
+use Rattle.hub_core.proofs.Leaving.{ends_none_of}
 use Rattle.hub_core.proofs.View.{same_run}
 use Rattle.hub_core.proofs.Hears.{hears_none, acts_few, failed_few}
 use Rattle.hub_core.proofs.Pumping.{acts_so}
@@ -15,12 +16,13 @@ use Rattle.hub_core.proofs.hub.Hub.act.Goals as goal
 pub invariant_of-self : goal.invariant_of-self
 invariant_of-self g c =
     let none : c.self.inside.tunnel.known.fault ≡ None = none_inside _ _ c.self.view_is c.requires.stands in
-    acts_failed _ _ _ _ _ _ _ none c.act.ensures.events c.act.ensures.grows _ _ c.in_err-acted.ensures.adds c.in_err-acted.ensures.fault (c.in_err-acted.ensures.by_tunnel none) (prompts_told _ _ c.self.inside.work c.act.ensures.prompt) c.self.invariant
+    acts_failed _ _ _ _ _ _ _ none c.act.ensures.events c.act.ensures.grows _ _ c.in_err-acted.ensures.adds c.in_err-acted.ensures.fault (c.in_err-acted.ensures.by_tunnel none) (hastens_alone _ _ c.self.inside.work c.act.ensures.timeless c.act.ensures.alone) c.self.invariant
 
 pub invariant_of-self-2 : goal.invariant_of-self-2
 invariant_of-self-2 g c =
     let none : c.self.inside.tunnel.known.fault ≡ None = none_inside _ _ c.self.view_is c.requires.stands in
-    acts_done _ _ _ _ _ _ _ none c.act.ensures.events c.act.ensures.grows _ _ _ _ c.in_ok-acted.ensures.adds c.in_ok-acted.ensures.stands c.lose.ensures.books c.moments_go_on.ensures.later c.lose.ensures.fits c.now-now.ensures.newest (prompts_told _ _ c.self.inside.work c.act.ensures.prompt) c.self.invariant
+    acts_done _ _ _ _ _ _ _ none c.act.ensures.events c.act.ensures.grows _ _ _ _ c.in_ok-acted.ensures.adds c.in_ok-acted.ensures.stands c.lose.ensures.books c.moments_go_on.ensures.later c.lose.ensures.fits c.now-now.ensures.newest (hastens_alone _ _ c.self.inside.work c.act.ensures.timeless c.act.ensures.alone)
+    (opens_by _ _ c.self.inside.work c.lose.new.work _ c.act.ensures.grows (ends_none_of _ _ c.act.ensures.alone) (asked_after false c.in_ok-acted.acted.loss c.now-now.result c.self.inside.work.closing c.lose.new.work.closing c.lose.ensures.closes)) c.self.invariant
 
 pub returns-in_err-acted-clause-since : goal.returns-in_err-acted-clause-since
 returns-in_err-acted-clause-since g c =

@@ -4,11 +4,12 @@ use Rattle.hub_work.specs.declared.work.Work.{Work}
 use Rattle.hub_core.specs.Keeps.{IsAllDone}
 use Rattle.hub_core.proofs.Closings.{kept_as, closing_run, begun_stays}
 use Rattle.hub_core.proofs.Endings.{some_begun}
+use Rattle.hub_core.proofs.Hastening.{asked_begun}
 use Rattle.hub_core.proofs.hub.Hub.closing.Goals as goal
 
 pub invariant_of-self : goal.invariant_of-self
 invariant_of-self g c =
-    kept_as _ _ c.self.inside.work c.closing_at.new.self _ _ c.closing_at.ensures.rest (subst (λ v. IsAllDone v.devices v.turns v.log) (sym c.self.view_is) c.requires.over) c.self.invariant
+    kept_as _ _ c.self.inside.work c.closing_at.new.self _ _ c.closing_at.ensures.rest (subst (λ v. IsAllDone v.devices v.turns v.log) (sym c.self.view_is) c.requires.over) (asked_begun c.now-now.result c.self.inside.work.closing c.closing_at.new.self.closing c.closing_at.ensures.begins) c.self.invariant
 
 pub returns-clause-begins : goal.returns-clause-begins
 returns-clause-begins g c =

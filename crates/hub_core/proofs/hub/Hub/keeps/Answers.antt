@@ -2,6 +2,7 @@ use Rattle.std.proofs.Common.{ℕ, List, subst}
 use Rattle.line_model.specs.LinkStory.{IsPlace}
 use Rattle.hub_work.specs.Downloaders.{Task, AreJobsWith}
 use Rattle.hub_core.proofs.Headlines.{headline, safe_over, right_over, fault_in}
+use Rattle.hub_core.proofs.Telling.{loses_none}
 use Rattle.hub_core.proofs.Thorough.{thorough_over}
 use Rattle.hub_core.proofs.View.{seen_tasks}
 use Rattle.hub_core.proofs.hub.Hub.keeps.Goals as goal
@@ -16,7 +17,7 @@ returns-clause-headline g c =
     let here : AreJobsWith _ jobs = subst (λ (ts : List Task). AreJobsWith ts jobs) (seen_tasks c.self.inside.work) of in
     headline jobs c.self.inside.work.telegrams.turns c.self.inside.work.journal.entries _ c.self.inside.tunnel.known
     (c.one_downloader_per_device.ensures.alone jobs c.self.inside.work.journal.entries (c.self.invariant.books.written.reserved jobs (c.self.invariant.jobs_are jobs here)))
-    (λ places e. (c.self.invariant.told jobs here places e).tells) c.keeps.ensures.record c.keeps.ensures.legal (c.self.invariant.prompt jobs here))
+    (λ places e. (c.self.invariant.told jobs here places e).tells) c.keeps.ensures.record c.keeps.ensures.legal (c.self.invariant.hastens jobs here))
 
 pub returns-clause-safe : goal.returns-clause-safe
 returns-clause-safe g c =
@@ -31,6 +32,10 @@ returns-clause-thorough g c =
     rw (← c.self.view_is) (λ jobs of.
     let here : AreJobsWith _ jobs = subst (λ (ts : List Task). AreJobsWith ts jobs) (seen_tasks c.self.inside.work) of in
     thorough_over jobs c.self.inside.work.telegrams.turns c.self.inside.work.journal.entries _ c.self.inside.tunnel.known (λ places e. (c.self.invariant.told jobs here places e).tells) c.keeps.ensures.record)
+
+pub returns-clause-hastens : goal.returns-clause-hastens
+returns-clause-hastens g c =
+    rw (← c.self.view_is) (λ jobs of places e. loses_none jobs c.self.inside.work.telegrams.turns c.self.inside.work.journal.entries places (c.self.invariant.hastens jobs (subst (λ (ts : List Task). AreJobsWith ts jobs) (seen_tasks c.self.inside.work) of) places e))
 
 pub returns-clause-right : goal.returns-clause-right
 returns-clause-right g c =

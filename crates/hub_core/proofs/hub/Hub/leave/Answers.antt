@@ -1,10 +1,11 @@
 use Rattle.std.proofs.Common.{◌≡◌, ◌≢◌, Some, None, sym, ap, subst, refl, ◌∙◌}
+use Rattle.line_model.specs.Closing as line
 use Rattle.hub_work.specs.declared.work.Work.{Work}
 use Rattle.hub_core.specs.Keeps.{IsAllDone}
 use Rattle.hub_core.proofs.Calls.{leaves_failed, leaves_done, same_refl}
-use Rattle.hub_core.proofs.Closings.{kept_as, closing_run, asked_since}
+use Rattle.hub_core.proofs.Closings.{asides_fit_as, asked_since, closing_run, goes_on_begun, has_asked_since, same_as}
 use Rattle.hub_core.proofs.Keeps.{none_inside}
-use Rattle.hub_core.proofs.Prompting.{prompts_told}
+use Rattle.hub_core.proofs.Hastening.{hastens_leave, listened_asked, opens_unasked}
 use Rattle.hub_core.proofs.Quiet.{asides_fit}
 use Rattle.hub_core.proofs.Hears.{hears_none, leaves_few, failed_few}
 use Rattle.hub_core.specs.Closes.{Resumes, AsksNow, HasDone}
@@ -22,22 +23,33 @@ use Rattle.hub_core.proofs.hub.Hub.leave.Goals as goal
 
 pub invariant_of-self : goal.invariant_of-self
 invariant_of-self g c =
+    let over : IsAllDone c.self.inside.work.reservation.devices c.self.inside.work.telegrams.turns c.self.inside.work.journal.entries = subst (λ v. IsAllDone v.devices v.turns v.log) (sym c.self.view_is) c.requires.over in
     let none : c.self.inside.tunnel.known.fault ≡ None = none_inside _ _ c.self.view_is c.requires.stands in
-    leaves_failed _ _ _ _ _ _ _ none c.leave.ensures.events c.leave.ensures.grows _ _ c.in_err-asked.ensures.adds c.in_err-asked.ensures.fault (c.in_err-asked.ensures.by_tunnel none) (prompts_told _ _ c.self.inside.work c.leave.ensures.prompt) c.self.invariant
+    let waited : AsksNow c.self.inside.work.closing (g.L.Link.story c.self.inside.tunnel.link) = subst (λ v. AsksNow v.closing (g.L.Link.story v.link)) (sym c.self.view_is) c.requires.waited in
+    leaves_failed _ _ _ _ _ _ _ none c.leave.ensures.events c.leave.ensures.grows _ _ c.in_err-asked.ensures.adds c.in_err-asked.ensures.fault (c.in_err-asked.ensures.by_tunnel none)
+    (hastens_leave _ _ c.self.inside.work c.leave.ensures.timeless c.leave.ensures.alone over (λ places e. c.self.invariant.stays none (listened_asked c.self.inside.work.closing _ (waited places e)) places e)) c.self.invariant
 
 pub invariant_of-self-2 : goal.invariant_of-self-2
 invariant_of-self-2 g c =
     let over : IsAllDone c.self.inside.work.reservation.devices c.self.inside.work.telegrams.turns c.self.inside.work.journal.entries = subst (λ v. IsAllDone v.devices v.turns v.log) (sym c.self.view_is) c.requires.over in
     let none : c.self.inside.tunnel.known.fault ≡ None = none_inside _ _ c.self.view_is c.requires.stands in
-    kept_as _ _ c.self.inside.work c.asked_to_leave.new.self _ _ c.asked_to_leave.ensures.rest over
-    (leaves_done _ _ _ _ _ _ _ none c.leave.ensures.events c.leave.ensures.grows c.self.inside.work c.self.inside.work c.in_ok-asked.asked c.now-now.result c.in_ok-asked.ensures.adds c.in_ok-asked.ensures.stands (same_refl c.self.inside.work)
-    c.moments_go_on.ensures.later (asides_fit c.self.inside.work c.now-now.result c.moments_go_on.ensures.aside) c.now-now.ensures.newest (prompts_told _ _ c.self.inside.work c.leave.ensures.prompt) c.self.invariant)
+    let waited : AsksNow c.self.inside.work.closing (g.L.Link.story c.self.inside.tunnel.link) = subst (λ v. AsksNow v.closing (g.L.Link.story v.link)) (sym c.self.view_is) c.requires.waited in
+    let begun : c.self.inside.work.closing ≢ None = subst (λ v. v.closing ≢ None) (sym c.self.view_is) c.requires.begun in
+    leaves_done _ _ _ _ _ _ _ none c.leave.ensures.events c.leave.ensures.grows c.self.inside.work c.asked_to_leave.new.self c.in_ok-asked.asked c.now-now.result c.in_ok-asked.ensures.adds c.in_ok-asked.ensures.stands
+    (same_as c.self.inside.work c.asked_to_leave.new.self c.asked_to_leave.ensures.rest (goes_on_begun (λ (s : line.Closing). line.Leaving c.now-now.result 0) c.self.inside.work.closing c.asked_to_leave.new.self.closing c.asked_to_leave.ensures.closing)) c.moments_go_on.ensures.later
+    (asides_fit_as c.self.inside.work c.asked_to_leave.new.self c.now-now.result c.asked_to_leave.ensures.rest c.moments_go_on.ensures.aside) c.now-now.ensures.newest
+    (hastens_leave _ _ c.self.inside.work c.leave.ensures.timeless c.leave.ensures.alone over (λ places e. c.self.invariant.stays none (listened_asked c.self.inside.work.closing _ (waited places e)) places e))
+    (λ stands isnt. absurd (has_asked_since c.now-now.result c.self.inside.work.closing c.asked_to_leave.new.self.closing c.asked_to_leave.ensures.closing begun isnt)) c.self.invariant
 
 pub invariant_of-self-then-not-asked : goal.invariant_of-self-then-not-asked
 invariant_of-self-then-not-asked g c =
+    let over : IsAllDone c.self.inside.work.reservation.devices c.self.inside.work.telegrams.turns c.self.inside.work.journal.entries = subst (λ v. IsAllDone v.devices v.turns v.log) (sym c.self.view_is) c.requires.over in
     let none : c.self.inside.tunnel.known.fault ≡ None = none_inside _ _ c.self.view_is c.requires.stands in
+    let waited : AsksNow c.self.inside.work.closing (g.L.Link.story c.self.inside.tunnel.link) = subst (λ v. AsksNow v.closing (g.L.Link.story v.link)) (sym c.self.view_is) c.requires.waited in
     leaves_done _ _ _ _ _ _ _ none c.leave.ensures.events c.leave.ensures.grows c.self.inside.work c.self.inside.work c.in_ok-asked.asked c.now-now.result c.in_ok-asked.ensures.adds c.in_ok-asked.ensures.stands (same_refl c.self.inside.work)
-    c.moments_go_on.ensures.later (asides_fit c.self.inside.work c.now-now.result c.moments_go_on.ensures.aside) c.now-now.ensures.newest (prompts_told _ _ c.self.inside.work c.leave.ensures.prompt) c.self.invariant
+    c.moments_go_on.ensures.later (asides_fit c.self.inside.work c.now-now.result c.moments_go_on.ensures.aside) c.now-now.ensures.newest
+    (hastens_leave _ _ c.self.inside.work c.leave.ensures.timeless c.leave.ensures.alone over (λ places e. c.self.invariant.stays none (listened_asked c.self.inside.work.closing _ (waited places e)) places e))
+    (opens_unasked _ _ c.self.inside.work _ c.in_ok-asked.asked c.leave.ensures.grows c.in_ok-asked.ensures.adds c.if-not-asked.true) c.self.invariant
 
 pub is_over-is_over-requires-clause-over : goal.is_over-is_over-requires-clause-over
 is_over-is_over-requires-clause-over g c =

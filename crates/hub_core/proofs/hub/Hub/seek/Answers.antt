@@ -2,7 +2,7 @@ use Rattle.std.proofs.Common.{◌≡◌, Bool, false, None, IfOk, refl, sym, sub
 use Rattle.hub_core.specs.Pumps.{AddsSo, Does, is_left_now}
 use Rattle.hub_core.proofs.Calls.{seeks_kept}
 use Rattle.hub_core.proofs.Keeps.{none_inside}
-use Rattle.hub_core.proofs.Prompting.{prompts_told}
+use Rattle.hub_core.proofs.Hastening.{hastens_seek, opens_by, unbegun_asked}
 use Rattle.hub_core.proofs.Hears.{seeks_heard, seeks_few}
 use Rattle.hub_core.proofs.Pumping.{seeks_answer, seeks_none}
 use Rattle.hub_core.proofs.Polls.{seeks_send, seeks_acted, none_sent}
@@ -15,7 +15,8 @@ pub invariant_of-self : goal.invariant_of-self
 invariant_of-self g c =
     let none : c.self.inside.tunnel.known.fault ≡ None = none_inside _ _ c.self.view_is c.requires.stands in
     seeks_kept _ _ _ _ _ _ _ none c.seek-sought.ensures.events c.seek-sought.ensures.grows _ c.seek-sought.result _ c.seek-sought.ensures.adds c.seek-sought.ensures.fault c.seek-sought.ensures.stands (c.seek-sought.ensures.by_tunnel none)
-    c.moments_go_on.ensures.later c.moments_go_on.ensures.aside c.now-now.ensures.newest (prompts_told _ _ c.self.inside.work c.seek-sought.ensures.prompt) c.self.invariant
+    c.moments_go_on.ensures.later c.moments_go_on.ensures.aside c.now-now.ensures.newest (hastens_seek _ _ c.self.inside.work c.seek-sought.ensures.timeless c.seek-sought.ensures.alone (c.self.invariant.stays none (unbegun_asked c.self.inside.work.closing (sym c.is_closing.ensures ∙ c.if-is_closing.false))))
+    (opens_by _ _ c.self.inside.work c.self.inside.work _ c.seek-sought.ensures.grows c.seek-sought.ensures.alone (λ isnt. isnt)) c.self.invariant
 
 pub returns-then-is_closing-clause-since : goal.returns-then-is_closing-clause-since
 returns-then-is_closing-clause-since g c = since_itself

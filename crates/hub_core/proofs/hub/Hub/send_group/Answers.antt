@@ -6,7 +6,8 @@ use Rattle.line_model.specs.Record.{entries}
 use Rattle.hub_work.specs.Follows.{WasSent, WasLost}
 use Rattle.hub_work.specs.Works.{KeepsBooks}
 use Rattle.hub_core.proofs.Keeps.{books_same, of_books, stays_same}
-use Rattle.hub_core.proofs.Prompting.{prompts_told}
+use Rattle.hub_core.proofs.Hastening.{asked_same, hastens_alone, opens_by}
+use Rattle.hub_core.proofs.Leaving.{ends_none_of}
 use Rattle.hub_core.proofs.Putting.{telegram_so, put_done, put_failed}
 use Rattle.hub_core.proofs.Since.{call_since, since_itself, still_since}
 use Rattle.hub_core.proofs.View.{same_run, work_run}
@@ -37,7 +38,7 @@ pub invariant_of-self-in_err-put-in-Unput : goal.invariant_of-self-in_err-put-in
 invariant_of-self-in_err-put-in-Unput g c =
     let none : c.self.inside.tunnel.known.fault ≡ None = sym c.fault.ensures ∙ c.in_default.is in
     put_failed _ _ _ _ c.self.inside.work c.telegram_put.new.self _ _ _ none c.put.ensures.events c.put.ensures.grows _ c.at-at.result c.at-at.ensures.value (stays_same c.self.inside.work c.telegram_put.new.self (of_books c.self.inside.work c.telegram_put.new.self c.telegram_put.ensures.books))
-    (books_same c.self.inside.work c.telegram_put.new.self (of_books c.self.inside.work c.telegram_put.new.self c.telegram_put.ensures.books) c.at-at.result (subst (λ (n : ℕ). KeepsBooks n c.self.inside.work) (sym c.at-at.ensures.value) c.self.invariant.books)) (prompts_told _ _ c.self.inside.work c.put.ensures.prompt)
+    (books_same c.self.inside.work c.telegram_put.new.self (of_books c.self.inside.work c.telegram_put.new.self c.telegram_put.ensures.books) c.at-at.result (subst (λ (n : ℕ). KeepsBooks n c.self.inside.work) (sym c.at-at.ensures.value) c.self.invariant.books)) (hastens_alone _ _ c.self.inside.work c.put.ensures.timeless c.put.ensures.alone)
     (λ jobs old es fits.
     let place : HasPlace (channel (entries old)) = (c.has_place.ensures.told none old es).0 c.if-not-has_place.false in
     telegram_so _ c.self.inside.work c.telegram_put.new.self _ c.at-at.result jobs old es c.at-at.ensures.told place (c.places_are_free.ensures old (c.keeps.ensures.record old es).right.renews place)
@@ -48,12 +49,13 @@ pub invariant_of-self-in-Unput : goal.invariant_of-self-in-Unput
 invariant_of-self-in-Unput g c =
     let none : c.self.inside.tunnel.known.fault ≡ None = sym c.fault.ensures ∙ c.in_default.is in
     put_done _ _ _ _ c.self.inside.work c.telegram_put.new.self _ _ _ none c.put.ensures.events c.put.ensures.grows _ c.at-at.result c.at-at.ensures.value (stays_same c.self.inside.work c.telegram_put.new.self (of_books c.self.inside.work c.telegram_put.new.self c.telegram_put.ensures.books))
-    (books_same c.self.inside.work c.telegram_put.new.self (of_books c.self.inside.work c.telegram_put.new.self c.telegram_put.ensures.books) c.at-at.result (subst (λ (n : ℕ). KeepsBooks n c.self.inside.work) (sym c.at-at.ensures.value) c.self.invariant.books)) (prompts_told _ _ c.self.inside.work c.put.ensures.prompt)
+    (books_same c.self.inside.work c.telegram_put.new.self (of_books c.self.inside.work c.telegram_put.new.self c.telegram_put.ensures.books) c.at-at.result (subst (λ (n : ℕ). KeepsBooks n c.self.inside.work) (sym c.at-at.ensures.value) c.self.invariant.books)) (hastens_alone _ _ c.self.inside.work c.put.ensures.timeless c.put.ensures.alone)
     (λ jobs old es fits.
     let place : HasPlace (channel (entries old)) = (c.has_place.ensures.told none old es).0 c.if-not-has_place.false in
     telegram_so _ c.self.inside.work c.telegram_put.new.self _ c.at-at.result jobs old es c.at-at.ensures.told place (c.places_are_free.ensures old (c.keeps.ensures.record old es).right.renews place)
     (subst (λ (n : ℕ). KeepsBooks n c.self.inside.work) (sym c.at-at.ensures.value) c.self.invariant.books) (sym c.stage.ensures ∙ c.in-Unput.is) c.in-Some-telegram.ensures.right c.telegram_put.ensures.follows c.in-Some-telegram.ensures.next (of_books c.self.inside.work c.telegram_put.new.self c.telegram_put.ensures.books) fits)
-    _ c.in_ok-put-in-Unput.ensures.adds c.in_ok-put-in-Unput.ensures.stands c.self.invariant
+    _ c.in_ok-put-in-Unput.ensures.adds c.in_ok-put-in-Unput.ensures.stands
+    (opens_by _ _ c.self.inside.work c.telegram_put.new.self _ c.put.ensures.grows (ends_none_of _ _ c.put.ensures.alone) (asked_same c.self.inside.work.closing c.telegram_put.new.self.closing c.telegram_put.ensures.books.closing)) c.self.invariant
 
 pub returns-in-Some-clause-since : goal.returns-in-Some-clause-since
 returns-in-Some-clause-since g c = since_itself

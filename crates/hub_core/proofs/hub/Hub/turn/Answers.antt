@@ -3,7 +3,8 @@ use Rattle.std.specs.Prelude.{is_some}
 use Rattle.line_model.specs.Asks.{HasPlace}
 use Rattle.line_model.specs.ClientView.{channel}
 use Rattle.line_model.specs.Record.{entries}
-use Rattle.hub_core.proofs.Prompting.{prompts_told}
+use Rattle.hub_core.proofs.Hastening.{asked_same, hastens_alone, opens_by}
+use Rattle.hub_core.proofs.Leaving.{ends_none_of}
 use Rattle.hub_core.proofs.Putting.{turn_so, turn_did, put_done, put_failed}
 use Rattle.hub_core.proofs.Since.{call_since, since_itself, still_since}
 use Rattle.hub_core.proofs.View.{work_run}
@@ -31,7 +32,7 @@ invariant_of-self g c =
 pub invariant_of-self-in_err-put-in-Puts : goal.invariant_of-self-in_err-put-in-Puts
 invariant_of-self-in_err-put-in-Puts g c =
     let none : c.self.inside.tunnel.known.fault ≡ None = sym c.fault.ensures ∙ c.in_default.is in
-    put_failed _ _ _ _ c.self.inside.work c.turn.new.self _ _ _ none c.put.ensures.events c.put.ensures.grows _ c.at-at.result c.at-at.ensures.value (record { tasks_are = c.turn.ensures.run.tasks_are; devices = c.turn.ensures.run.devices; turns = c.turn.ensures.run.turns; logs = c.in-Puts.ensures.told; begun = ap is_some c.turn.ensures.run.closing }) c.turn.ensures.books (prompts_told _ _ c.self.inside.work c.put.ensures.prompt)
+    put_failed _ _ _ _ c.self.inside.work c.turn.new.self _ _ _ none c.put.ensures.events c.put.ensures.grows _ c.at-at.result c.at-at.ensures.value (record { tasks_are = c.turn.ensures.run.tasks_are; devices = c.turn.ensures.run.devices; turns = c.turn.ensures.run.turns; logs = c.in-Puts.ensures.told; begun = ap is_some c.turn.ensures.run.closing }) c.turn.ensures.books (hastens_alone _ _ c.self.inside.work c.put.ensures.timeless c.put.ensures.alone)
     (λ jobs old es fits.
     let place : HasPlace (channel (entries old)) = (c.has_place-has_place.ensures.told none old es).0 c.in-Puts.ensures.placed in
     turn_so _ c.self.inside.work c.turn.new.self _ c.now-now.result c.at-at.result jobs old es c.at-at.ensures.told (c.now-now.ensures.newest old es) place (c.places_are_free.ensures old (c.keeps.ensures.record old es).right.renews place) c.in-Puts.ensures.follows fits)
@@ -40,11 +41,12 @@ invariant_of-self-in_err-put-in-Puts g c =
 pub invariant_of-self-in-Puts : goal.invariant_of-self-in-Puts
 invariant_of-self-in-Puts g c =
     let none : c.self.inside.tunnel.known.fault ≡ None = sym c.fault.ensures ∙ c.in_default.is in
-    put_done _ _ _ _ c.self.inside.work c.turn.new.self _ _ _ none c.put.ensures.events c.put.ensures.grows _ c.at-at.result c.at-at.ensures.value (record { tasks_are = c.turn.ensures.run.tasks_are; devices = c.turn.ensures.run.devices; turns = c.turn.ensures.run.turns; logs = c.in-Puts.ensures.told; begun = ap is_some c.turn.ensures.run.closing }) c.turn.ensures.books (prompts_told _ _ c.self.inside.work c.put.ensures.prompt)
+    put_done _ _ _ _ c.self.inside.work c.turn.new.self _ _ _ none c.put.ensures.events c.put.ensures.grows _ c.at-at.result c.at-at.ensures.value (record { tasks_are = c.turn.ensures.run.tasks_are; devices = c.turn.ensures.run.devices; turns = c.turn.ensures.run.turns; logs = c.in-Puts.ensures.told; begun = ap is_some c.turn.ensures.run.closing }) c.turn.ensures.books (hastens_alone _ _ c.self.inside.work c.put.ensures.timeless c.put.ensures.alone)
     (λ jobs old es fits.
     let place : HasPlace (channel (entries old)) = (c.has_place-has_place.ensures.told none old es).0 c.in-Puts.ensures.placed in
     turn_so _ c.self.inside.work c.turn.new.self _ c.now-now.result c.at-at.result jobs old es c.at-at.ensures.told (c.now-now.ensures.newest old es) place (c.places_are_free.ensures old (c.keeps.ensures.record old es).right.renews place) c.in-Puts.ensures.follows fits)
-    _ c.in_ok-put-in-Puts.ensures.adds c.in_ok-put-in-Puts.ensures.stands c.self.invariant
+    _ c.in_ok-put-in-Puts.ensures.adds c.in_ok-put-in-Puts.ensures.stands
+    (opens_by _ _ c.self.inside.work c.turn.new.self _ c.put.ensures.grows (ends_none_of _ _ c.put.ensures.alone) (asked_same c.self.inside.work.closing c.turn.new.self.closing c.turn.ensures.run.closing)) c.self.invariant
 
 pub returns-in-Some-clause-since : goal.returns-in-Some-clause-since
 returns-in-Some-clause-since g c = since_itself

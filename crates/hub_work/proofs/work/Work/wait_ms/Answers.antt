@@ -1,7 +1,7 @@
 use Rattle.std.proofs.Common.{◌≡◌, ◌≤◌, ◌+◌, ℕ, Option, Some, length, sym, subst, arith}
 use Rattle.line_model.specs.Waiting.{longest_poll, LastsUntil}
 use Rattle.hub_work.proofs.Lasting.{LooksSoFar, none_so_far, one_more, looks_all, waits_all}
-use Rattle.hub_work.proofs.PollsRight.{polls_rightly}
+use Rattle.hub_work.proofs.PollsRight.{lasts_once_sent, polls_rightly}
 use Rattle.hub_work.proofs.work.Work.wait_ms.Goals as goal
 
 pub loop-place-init : goal.loop-place-init
@@ -27,3 +27,8 @@ returns-clause-rightly c =
     let all : length c.args.self.now.crew ≤ c.loop-place.place = (let end = c.len-place-end.ensures in let test = c.loop-place-test.false in omega (arith, end, test)) in
     polls_rightly c.of_a_downloader.ensures c.args.self.now c.args.now c.args.has_place c.loop-place.wait (looks_all c.args.self.now c.args.now c.args.has_place c.loop-place.place c.loop-place.wait all c.loop-place.invariant)
     (waits_all c.args.self.now c.args.now c.args.has_place c.loop-place.place c.loop-place.wait all c.loop-place.invariant)
+
+pub returns-clause-sent : goal.returns-clause-sent
+returns-clause-sent c =
+    let all : length c.args.self.now.crew ≤ c.loop-place.place = (let end = c.len-place-end.ensures in let test = c.loop-place-test.false in omega (arith, end, test)) in
+    lasts_once_sent c.of_a_downloader.ensures c.args.self.now c.args.now c.args.has_place c.loop-place.wait (looks_all c.args.self.now c.args.now c.args.has_place c.loop-place.place c.loop-place.wait all c.loop-place.invariant)

@@ -3,8 +3,8 @@ use Rattle.knx_top.proofs.GoodJobs.{all_good}
 use Rattle.knx_top.proofs.commands.download.ready_for.Goals as goal
 
 pub returns : goal.returns
-returns c =
-    let planned = rw c.as_slice.ensures at c.in_ok-plans.ensures in
+returns g c =
+    let planned = rw c.as_slice-2.ensures at c.in_ok-plans.ensures in
     record {
       jobs = c.in_ok-jobs.ensures.are;
       few = plans_few c.args.project.now c.in_ok-plans.plans c.in_ok-jobs.jobs planned (c.in_ok-jobs.ensures.few c.requires);

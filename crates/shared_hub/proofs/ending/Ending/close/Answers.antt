@@ -14,6 +14,7 @@ returns-clause-tells g c = λ workers seats.
       headline = λ jobs are. rw (log_is, link_is) (c.keeps.ensures.headline jobs are);
       safe = λ jobs are. rw (log_is, link_is) (c.keeps.ensures.safe jobs are);
       thorough = λ jobs are. rw (log_is, link_is) (c.keeps.ensures.thorough jobs are);
+      hastens = λ jobs are. rw (log_is, link_is) (c.keeps.ensures.hastens jobs are);
       right = λ jobs are good. rw (log_is, link_is) (c.keeps.ensures.right jobs are good);
       fault = λ jobs are.
           told_right jobs (reverse c.close-link.result.log) c.close-link.result.fault c.told_fault.result (record_in (g.L.Link.story c.close-link.result.link)) c.told_fault.ensures.fault

@@ -2,11 +2,11 @@ use Rattle.std.proofs.Common.{◌≡◌, length, None, refl, sym, ap, subst, ◌
 use Rattle.hub_core.specs.Left.{IsLeft}
 use Rattle.shared_hub.specs.Items.{HasTold}
 use Rattle.shared_hub.specs.Sites.{items_of}
-use Rattle.shared_hub.specs.Steps.{HasFailed, Steps}
+use Rattle.shared_hub.specs.Steps.{GoesOn, HasFailed, Steps}
 use Rattle.hub_core.proofs.Left.{next_left}
 use Rattle.shared_hub.proofs.Leaving.{through_group}
 use Rattle.shared_hub.proofs.Seats.{group_seats}
-use Rattle.shared_hub.proofs.Sites.{hears_no_more, ends_so, fails_so, group_steps}
+use Rattle.shared_hub.proofs.Sites.{hears_no_more, ends_so, fails_so, group_steps, group_on}
 use Rattle.shared_hub.proofs.site.Site.send.Goals as goal
 
 pub invariant_of-self : goal.invariant_of-self
@@ -17,8 +17,8 @@ invariant_of-self g c =
     (group_seats (length c.self.inside.opening.value.crew) c.self.inside.hub.log c.send_group.new.self.log c.self.invariant.seats c.send_group.result _ _ c.send_group.ensures.told c.send_group.ensures.untold)
     none c.in_default.field-0 c.in_default.ensures.fault c.in_default.ensures.few
 
-pub returns-in_default : goal.returns-in_default
-returns-in_default g c =
+pub returns-in_default-clause-steps : goal.returns-in_default-clause-steps
+returns-in_default-clause-steps g c =
     let none : c.self.inside.hub.fault ≡ None = ap (λ s. s.hub.fault) c.self.view_is ∙ c.requires.stands in
     subst (λ s. HasFailed (items_of s) (items_of (record { hub = c.send_group.new.self; feed = c.self.inside.feed; opening = c.self.inside.opening; relay = c.self.inside.relay }))) c.self.view_is
     (fails_so (record { hub = c.self.inside.hub; feed = c.self.inside.feed; opening = c.self.inside.opening; relay = c.self.inside.relay }) (record { hub = c.send_group.new.self; feed = c.self.inside.feed; opening = c.self.inside.opening; relay = c.self.inside.relay }) refl refl c.in_default.field-0 c.in_default.ensures.untold none c.in_default.ensures.fault)
@@ -31,9 +31,15 @@ invariant_of-self-2 g c =
     (group_seats (length c.self.inside.opening.value.crew) c.self.inside.hub.log c.send_group.new.self.log c.self.invariant.seats c.send_group.result _ _ c.send_group.ensures.told c.send_group.ensures.untold)
     none c.in-Ok.ensures.stands None refl c.in-Ok.ensures.heard
 
-pub returns : goal.returns
-returns g c =
+pub returns-clause-steps : goal.returns-clause-steps
+returns-clause-steps g c =
     let none : c.self.inside.hub.fault ≡ None = ap (λ s. s.hub.fault) c.self.view_is ∙ c.requires.stands in
     subst (λ s. Steps HasTold 0 (items_of s) (items_of (record { hub = c.send_group.new.self; feed = c.self.inside.feed; opening = c.self.inside.opening; relay = c.self.inside.relay })) c.step_of.result) c.self.view_is
     (subst (Steps HasTold 0 (items_of (record { hub = c.self.inside.hub; feed = c.self.inside.feed; opening = c.self.inside.opening; relay = c.self.inside.relay })) (items_of (record { hub = c.send_group.new.self; feed = c.self.inside.feed; opening = c.self.inside.opening; relay = c.self.inside.relay }))) (sym c.step_of.ensures)
     (group_steps (record { hub = c.self.inside.hub; feed = c.self.inside.feed; opening = c.self.inside.opening; relay = c.self.inside.relay }) (record { hub = c.send_group.new.self; feed = c.self.inside.feed; opening = c.self.inside.opening; relay = c.self.inside.relay }) refl refl none c.in-Ok.ensures.stands _ c.args.k c.in-Ok.did c.in-Ok.ensures.told))
+
+pub returns-clause-on : goal.returns-clause-on
+returns-clause-on g c =
+    let left : IsLeft c.self.inside.hub = subst (λ s. IsLeft s.hub) (sym c.self.view_is) (next_left c.args.self.now.hub _ c.requires.next) in
+    subst (λ came. GoesOn came c.send_group.new.self) (sym c.step_of.ensures)
+    (group_on c.self.inside.hub c.send_group.new.self c.send_group.ensures.since.run.devices c.send_group.ensures.since.run.turns c.in-Ok.ensures.stands left _ c.args.k c.in-Ok.did c.in-Ok.ensures.told)

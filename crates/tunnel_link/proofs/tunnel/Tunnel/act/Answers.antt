@@ -2,10 +2,10 @@ use Rattle.std.proofs.Common.{◌≡◌, rules, sym, subst, ap, ◌∙◌}
 use Rattle.line_model.specs.LinkStory.{IsTime}
 use Rattle.tunnel_link.specs.Kept.{with_due}
 use Rattle.tunnel_link.proofs.Stories.{goes_again}
-use Rattle.tunnel_link.specs.Adds.{AllPrompt}
+use Rattle.tunnel_link.specs.Paces.{TakesNoTime}
 use Rattle.tunnel_link.proofs.Acting.{at_first, act_lost, act_first, act_second, act_all}
 use Rattle.tunnel_link.proofs.Faulted.{passed_on}
-use Rattle.tunnel_link.proofs.Prompts.{both_prompt, twice_acted}
+use Rattle.tunnel_link.proofs.Prompts.{twice_acted}
 use Rattle.tunnel_link.specs.Alone.{Each, LeavesAlone}
 use Rattle.tunnel_link.proofs.Alone.{both_each}
 use Rattle.tunnel_link.proofs.tunnel.Tunnel.act.Goals as goal
@@ -40,17 +40,17 @@ returns-in_err-again-clause-by_tunnel g c = λ u. (passed_on c.send_due.result _
 pub returns-in_err-beat-clause-by_tunnel : goal.returns-in_err-beat-clause-by_tunnel
 returns-in_err-beat-clause-by_tunnel g c = λ u. (passed_on c.send_due-2.result _ c.in_err-beat.field-0.0 c.in_err-beat.was (search rules) c.send_due-2.ensures.by_tunnel)
 
-pub returns-in_err-loss-clause-prompt : goal.returns-in_err-loss-clause-prompt
-returns-in_err-loss-clause-prompt g c = act_lost _ _ _ c.lapse.ensures.still AllPrompt c.in_err-loss.field-0.0 c.in_err-loss.was
+pub returns-in_err-loss-clause-timeless : goal.returns-in_err-loss-clause-timeless
+returns-in_err-loss-clause-timeless g c = act_lost _ _ _ c.lapse.ensures.still (Each TakesNoTime) c.in_err-loss.field-0.0 c.in_err-loss.was
 
-pub returns-in_err-again-clause-prompt : goal.returns-in_err-again-clause-prompt
-returns-in_err-again-clause-prompt g c = at_first _ _ _ c.lapse.ensures.still AllPrompt _ c.send_due.ensures.prompt
+pub returns-in_err-again-clause-timeless : goal.returns-in_err-again-clause-timeless
+returns-in_err-again-clause-timeless g c = at_first _ _ _ c.lapse.ensures.still (Each TakesNoTime) _ c.send_due.ensures.timeless
 
-pub returns-in_err-beat-clause-prompt : goal.returns-in_err-beat-clause-prompt
-returns-in_err-beat-clause-prompt g c = at_first _ _ _ c.lapse.ensures.still AllPrompt _ (both_prompt _ _ _ c.send_due.ensures.grows c.send_due-2.ensures.grows c.send_due.ensures.prompt c.send_due-2.ensures.prompt)
+pub returns-in_err-beat-clause-timeless : goal.returns-in_err-beat-clause-timeless
+returns-in_err-beat-clause-timeless g c = at_first _ _ _ c.lapse.ensures.still (Each TakesNoTime) _ (both_each TakesNoTime _ _ _ c.send_due.ensures.grows c.send_due-2.ensures.grows c.send_due.ensures.timeless c.send_due-2.ensures.timeless)
 
-pub returns-clause-prompt : goal.returns-clause-prompt
-returns-clause-prompt g c = at_first _ _ _ c.lapse.ensures.still AllPrompt _ (both_prompt _ _ _ c.send_due.ensures.grows c.send_due-2.ensures.grows c.send_due.ensures.prompt c.send_due-2.ensures.prompt)
+pub returns-clause-timeless : goal.returns-clause-timeless
+returns-clause-timeless g c = at_first _ _ _ c.lapse.ensures.still (Each TakesNoTime) _ (both_each TakesNoTime _ _ _ c.send_due.ensures.grows c.send_due-2.ensures.grows c.send_due.ensures.timeless c.send_due-2.ensures.timeless)
 
 pub returns-clause-acted : goal.returns-clause-acted
 returns-clause-acted g c =

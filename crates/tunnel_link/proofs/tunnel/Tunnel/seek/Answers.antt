@@ -2,7 +2,7 @@ use Rattle.std.proofs.Common.{rules, ap}
 use Rattle.tunnel_link.proofs.SeekKept.{seek_keeps, seek_goes}
 use Rattle.tunnel_link.proofs.CallAnswers.{sought_err, sought_ok}
 use Rattle.tunnel_link.proofs.Faulted.{connects_of, passed_on}
-use Rattle.tunnel_link.proofs.Prompts.{connects_prompt, sought_ready}
+use Rattle.tunnel_link.proofs.Prompts.{connects_timeless, sought_ready}
 use Rattle.tunnel_link.proofs.AloneCalls.{connects_ends_none}
 use Rattle.tunnel_link.proofs.tunnel.Tunnel.seek.Goals as goal
 
@@ -27,11 +27,11 @@ returns-clause-adds g c = rw (← ap (λ v. v.link) c.self.view_is) (sought_ok _
 pub returns-in_err-connected-clause-by_tunnel : goal.returns-in_err-connected-clause-by_tunnel
 returns-in_err-connected-clause-by_tunnel g c = λ u. (passed_on c.connected.result _ c.in_err-connected.field-0.0 c.in_err-connected.was (search rules) (connects_of _ _ _ _ _ c.connected.ensures.so))
 
-pub returns-in_err-connected-clause-prompt : goal.returns-in_err-connected-clause-prompt
-returns-in_err-connected-clause-prompt g c = rw (← ap (λ v. v.link) c.self.view_is) (connects_prompt _ _ _ _ _ c.self.invariant.legal c.connected.ensures.so)
+pub returns-in_err-connected-clause-timeless : goal.returns-in_err-connected-clause-timeless
+returns-in_err-connected-clause-timeless g c = rw (← ap (λ v. v.link) c.self.view_is) (connects_timeless _ _ _ _ _ c.self.invariant.legal c.connected.ensures.so)
 
-pub returns-clause-prompt : goal.returns-clause-prompt
-returns-clause-prompt g c = rw (← ap (λ v. v.link) c.self.view_is) (connects_prompt _ _ _ _ _ c.self.invariant.legal c.connected.ensures.so)
+pub returns-clause-timeless : goal.returns-clause-timeless
+returns-clause-timeless g c = rw (← ap (λ v. v.link) c.self.view_is) (connects_timeless _ _ _ _ _ c.self.invariant.legal c.connected.ensures.so)
 
 pub returns-clause-ready : goal.returns-clause-ready
 returns-clause-ready g c =

@@ -3,8 +3,8 @@ use Rattle.knx_top.proofs.GoodJobs.{all_good}
 use Rattle.knx_top.proofs.commands.sim.judge.order_of.Goals as goal
 
 pub returns-clause-prepared : goal.returns-clause-prepared
-returns-clause-prepared c =
-    let planned = rw c.as_slice.ensures at c.in_ok-plans.ensures in
+returns-clause-prepared g c =
+    let planned = rw c.as_slice-2.ensures at c.in_ok-plans.ensures in
     record {
       jobs = c.in_ok-jobs.ensures.are;
       few = plans_few c.args.new.now c.in_ok-plans.plans c.in_ok-jobs.jobs planned (c.in_ok-jobs.ensures.few c.requires);
@@ -13,5 +13,5 @@ returns-clause-prepared c =
       turns = c.in_ok-turns.ensures.are;
       few_turns = c.in_ok-turns.ensures.few;
       sendable = c.in_ok-turns.ensures.sendable;
-      devices = rw (c.as_slice-2.ensures, c.in_ok-bus.ensures) at c.in_ok-devices.ensures;
+      devices = rw (c.as_slice-3.ensures, c.in_ok-bus.ensures) at c.in_ok-devices.ensures;
     }

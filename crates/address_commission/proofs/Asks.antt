@@ -1,0 +1,241 @@
+-- A request is put, and waited for.
+use Rattle.std.proofs.Common.{◌≡◌, ◌≢◌, ℕ, ◌+◌, ◌-◌, ◌<◌, ◌≤◌, List, [], ◌∷◌, ◌++◌, Bool, true, false, cond, ◌||◌, Option, Some, None, Result, Ok, Err, refl, sym, ◌∙◌, ap, subst, inl, inr, ◌⊎◌, arith}
+use Rattle.std.specs.Prelude.{OnOk, IfErr}
+use Rattle.std.proofs.lemmas.List.{append-nil}
+use Rattle.knx_model.specs.declared.address.IndAddr.{IndAddr}
+use Rattle.knx_model.specs.declared.frames.cemi.Ldata.{Ldata}
+use Rattle.knx_model.specs.declared.frames.tpdu.Apdu.TheVariants.{AddressWrite, AddressRead}
+use Rattle.knx_model.specs.ApduReading.{apdu_in, tpdu_in, service_in, apdu_octets}
+use Rattle.line_model.specs.declared.fault.HubFault.{HubFault}
+use Rattle.line_model.specs.Reading.{ldata_in, RequestFrame, request_in}
+use Rattle.line_model.specs.Record.{Item, Put, Renewed, Got, Quiet, Entry, entry, Placed, entries, is_got, got_in}
+use Rattle.line_model.specs.LinkStory.{Story, places_in, newest_time}
+use Rattle.line_model.specs.Asks.{HasPlace, moment_of}
+use Rattle.line_model.specs.ChannelLost.{is_lost, delivers, expected}
+use Rattle.line_model.specs.ClientView.{ClientChannel, Fresh, Sought, RefusedBy, Unanswered, Open, Lost, Deed, Puts, Takes, Loses, Nothing, channel, deed, deed_of, deed_in}
+use Rattle.line_model.specs.Faults.{datagrams_taken, flood}
+use Rattle.line_model.specs.Moments.{Moment, moments}
+use Rattle.tunnel_link.specs.Adds.{Growing, PutsIt, PutsOne, moments_on}
+use Rattle.tunnel_link.specs.Goes.{GoesOn}
+use Rattle.tunnel_link.specs.Rights.{WhereTold}
+use Rattle.address_world.specs.declared.asked.Asked.{Asked}
+use Rattle.address_world.specs.declared.asked.Asked.TheVariants.{Read, Connect, Write}
+use Rattle.address_world.specs.Keeps.{frame_of}
+use Rattle.address_commission.specs.declared.assigned.AssignFault.{AssignFault}
+use Rattle.address_commission.specs.declared.ear.Ear.{Ear}
+use Rattle.address_commission.specs.declared.ear.Heard.{Heard}
+use Rattle.address_commission.specs.declared.ear.Heard.TheVariants as ear
+use Rattle.address_commission.specs.Rounds.{Round, begun, rounds, is_read, answers, quiet_since, has_lost}
+use Rattle.address_commission.specs.Talk.{AsksFor, MayAsk, ReadsFirst, Connects, Writes, ReadsLast, AsksRightly, DoesRightly, TalksRightly, HeardOut, listening_wait}
+use Rattle.address_commission.specs.Going.{ComesFrom, Going, GoOn, SameRounds, OneMore, AsksOne}
+use Rattle.address_commission.specs.Listening.{HeardSo, HearsRounds, Stands, Listens, HasWaited, IsTurnTo, IsOut, quiet_after}
+use Rattle.address_commission.specs.Ends.{FailsSo, ToldAs, CausedBy, AsksGoes, TalkFails, TalkGoes}
+use Rattle.address_commission.proofs.Folds.{NoGot, quiet_on, count_on}
+use Rattle.address_commission.proofs.Steps.{Step, step_of}
+
+-- ---- which frames are reads
+
+pub read_is : (wanted : IndAddr) → is_read (Some (frame_of wanted Read)) ≡ true
+unfolding service_in tpdu_in apdu_in
+read_is wanted = refl
+
+connect_isnt : (wanted : IndAddr) → is_read (Some (frame_of wanted Connect)) ≡ false
+connect_isnt wanted = refl
+
+write_isnt : (wanted : IndAddr) → is_read (Some (frame_of wanted Write)) ≡ false
+unfolding service_in tpdu_in apdu_in
+write_isnt wanted = refl
+
+pub other_isnt : (wanted : IndAddr) (asked : Asked) → (asked ≡ Read → ⊥) → is_read (Some (frame_of wanted asked)) ≡ false
+other_isnt wanted Read h = absurd (h refl)
+other_isnt wanted Connect h = connect_isnt wanted
+other_isnt wanted Write h = write_isnt wanted
+
+-- ---- what is put isn't got
+
+takes_not : (test : Bool) (o : Option RequestFrame) (cemi : List ℕ) → deed_of Takes test o ≡ Puts cemi → ⊥
+takes_not test None cemi e = cc
+takes_not true (Some request) cemi e = cc
+takes_not false (Some request) cemi e = cc
+
+unless_lost : (t : Bool) (d : Deed) (cemi : List ℕ) → (d ≡ Puts cemi → ⊥) → cond t Loses d ≡ Puts cemi → ⊥
+unless_lost true d cemi h e = cc
+unless_lost false d cemi h e = h e
+
+got_not_put : (ch : ClientChannel) (octets : List ℕ) (now : ℕ) (cemi : List ℕ) → deed ch (entry (Got octets) now) ≡ Puts cemi → ⊥
+unfolding deed
+got_not_put Fresh octets now cemi e = cc
+got_not_put (Sought since) octets now cemi e = cc
+got_not_put (RefusedBy status) octets now cemi e = cc
+got_not_put Unanswered octets now cemi e = cc
+got_not_put (Lost c) octets now cemi e = cc
+got_not_put (Open c l) octets now cemi e =
+    unless_lost (is_lost c l (entry (Got octets) now)) (deed_in c l (entry (Got octets) now)) cemi
+    (takes_not (delivers c (expected c l) (request_in (got_in (Got octets)))) (request_in (got_in (Got octets))) cemi) e
+
+put_not_got : (what : Item) (ch : ClientChannel) (now : ℕ) (cemi : List ℕ) → deed ch (entry what now) ≡ Puts cemi → is_got what ≡ false
+put_not_got (Put octets) ch now cemi e = refl
+put_not_got Renewed ch now cemi e = refl
+put_not_got (Got octets) ch now cemi e = absurd (got_not_put ch octets now cemi e)
+put_not_got Quiet ch now cemi e = refl
+
+-- ---- one request
+
+pub record OnePut (wanted : IndAddr) (cemi : List ℕ) (old added : List Placed) : Type 0 where
+  pub talks : AsksRightly wanted old cemi → TalksRightly wanted old → TalksRightly wanted (added ++ old)
+  pub no_got : NoGot added
+
+one_put : (wanted : IndAddr) (cemi : List ℕ) (m : Moment) (old added : List Placed) → moments_on old added ≡ m ∷ [] → m.what ≡ Puts cemi → OnePut wanted cemi old added
+one_put wanted cemi m old [] e is = absurd (cc)
+one_put wanted cemi m old (p ∷ []) e is =
+    let here : moment_of old p ≡ m = cc in
+    let what : deed (channel (entries old)) p.what ≡ Puts cemi = ap (λ (x : Moment). x.what) here ∙ is in
+    record {
+      talks = λ asks talks. (subst (λ (d : Deed). DoesRightly wanted old d) (sym what) asks, talks);
+      no_got = (put_not_got p.what.what (channel (entries old)) p.what.now cemi what, tt);
+    }
+one_put wanted cemi m old (p ∷ q ∷ added) e is = absurd (cc)
+
+-- ---- what was heard before it
+
+pub record Before (asked : Asked) (e f : Ear) : Type 0 where
+  pub confirmed : f.confirmed ≡ None
+  pub since : f.since ≡ e.since
+  pub read : asked ≡ Read → f.heard ≡ ear.Nobody
+  pub other : (asked ≡ Read → ⊥) → f.heard ≡ e.heard
+
+heard_other : (wanted : IndAddr) (asked : Asked) (e f : Ear) (cemi : List ℕ) (r : Round) (rs : List Round) → Before asked e f → (asked ≡ Read → ⊥) → ldata_in cemi ≡ Some (frame_of wanted asked) → HearsRounds e (r ∷ rs) → HearsRounds f (begun cemi ∷ r ∷ rs)
+heard_other wanted asked e f cemi r rs b not is h = (
+  (rw (is, other_isnt wanted asked not, b.other not) (subst (λ (l : List IndAddr). HeardSo e.heard l) (sym (append-nil (answers (r ∷ rs)))) h.0)),
+  b.confirmed,
+)
+
+heard_read : (wanted : IndAddr) (e f : Ear) (cemi : List ℕ) (rs : List Round) → Before Read e f → ldata_in cemi ≡ Some (frame_of wanted Read) → HearsRounds f (begun cemi ∷ rs)
+heard_read wanted e f cemi rs b is = (rw (is, read_is wanted, b.read refl) refl, b.confirmed)
+
+heard_before : (wanted : IndAddr) (asked : Asked) (e f : Ear) (cemi : List ℕ) (rs : List Round) → MayAsk wanted rs asked → Before asked e f → ldata_in cemi ≡ Some (frame_of wanted asked) → HearsRounds e rs → HearsRounds f (begun cemi ∷ rs)
+heard_before wanted _ e f cemi rs (ReadsFirst silent few) b is h = heard_read wanted e f cemi rs b is
+heard_before wanted _ e f cemi (r ∷ before) (Connects searches one) b is h = heard_other wanted Connect e f cemi r before b (λ q. cc) is h
+heard_before wanted _ e f cemi (c ∷ r ∷ before) (Writes searches asks ok one) b is h = heard_other wanted Write e f cemi c (r ∷ before) b (λ q. cc) is h
+heard_before wanted _ e f cemi rs (ReadsLast asks) b is h = heard_read wanted e f cemi rs b is
+
+-- ---- the step
+
+module _ (wanted : IndAddr) (asked : Asked) (e f : Ear) (cemi : List ℕ) (at : ℕ) (is : ldata_in cemi ≡ Some (frame_of wanted asked)) (b : Before asked e f) where
+  right : (old : List Placed) → IsTurnTo wanted asked old → AsksRightly wanted old cemi
+  right old t = record { asked = asked; reads = is; may = t.may; heard_out = t.heard_out }
+
+  put_talks : (old added new : List Placed) → new ≡ added ++ old → PutsIt cemi at old added → IsTurnTo wanted asked old → TalksRightly wanted old → TalksRightly wanted new
+  put_talks old added new grow put t talks = subst (TalksRightly wanted) (sym grow) ((one_put wanted cemi _ old added put refl).talks (right old t) talks)
+
+  none_talks : (old added new : List Placed) → new ≡ added ++ old → (added ≡ []) ⊎ PutsIt cemi at old added → IsTurnTo wanted asked old → TalksRightly wanted old → TalksRightly wanted new
+  none_talks old added new grow (inl none) t talks = subst (TalksRightly wanted) (sym (grow ∙ ap (λ (z : List Placed). z ++ old) none)) talks
+  none_talks old added new grow (inr put) t talks = put_talks old added new grow put t talks
+
+  new_rounds : (old added new : List Placed) → moments new ≡ moments_on old added ++ moments old → PutsIt cemi at old added → rounds (moments new) ≡ begun cemi ∷ rounds (moments old)
+  new_rounds old added new more put = ap rounds (more ∙ ap (λ (z : List Moment). z ++ moments old) put)
+
+  put_listens : (old added new : List Placed) → new ≡ added ++ old → moments new ≡ moments_on old added ++ moments old → PutsIt cemi at old added → IsTurnTo wanted asked old → Listens wanted e old → Listens wanted f new
+  put_listens old added new grow more put t l =
+      let none : NoGot added = (one_put wanted cemi _ old added put refl).no_got in
+      let count : datagrams_taken (entries new) ≡ datagrams_taken (entries old) = ap (λ (z : List Placed). datagrams_taken (entries z)) grow ∙ count_on added old none in
+      let quiet : quiet_since (entries new) ≡ quiet_since (entries old) = ap (λ (z : List Placed). quiet_since (entries z)) grow ∙ quiet_on added old none in
+      record {
+        stands = record {
+          rightly = put_talks old added new grow put t l.stands.rightly;
+          kept = ap has_lost (more ∙ ap (λ (z : List Moment). z ++ moments old) put) ∙ l.stands.kept;
+          few = subst (λ (z : ℕ). z < flood) (sym count) l.stands.few;
+        };
+        hears = record {
+          rounds_so = subst (HearsRounds f) (sym (new_rounds old added new more put)) (heard_before wanted asked e f cemi (rounds (moments old)) t.may b is l.hears.rounds_so);
+          since = b.since ∙ l.hears.since ∙ sym quiet;
+        };
+      }
+
+  pub put_goes : (s t : Story) → GoesOn s t → Growing (PutsOne {X = Unit {0}} (Ok tt) cemi at) s t → WhereTold (IsTurnTo wanted asked) s → AsksGoes {X = Unit {0}} wanted asked e f s t (Ok tt)
+  put_goes s t g h turn = record {
+    listens = λ l new p.
+        let x = step_of (PutsOne {X = Unit {0}} (Ok tt) cemi at) s t new g h p in
+        let now = turn x.old x.told in
+        put_listens x.old x.added new x.grow x.moments_grow (x.is now.place) now (l x.old x.told);
+    moves = λ l new p.
+        let x = step_of (PutsOne {X = Unit {0}} (Ok tt) cemi at) s t new g h p in
+        let now = turn x.old x.told in
+        record { old = x.old; told = x.told; is = subst (OneMore wanted asked (rounds (moments x.old))) (sym (new_rounds x.old x.added new x.moments_grow (x.is now.place))) (is, refl) };
+    fails = λ l. tt;
+  }
+
+  pub put_fails : (fault : HubFault) (s t : Story) (why : AssignFault) → GoesOn s t → Growing (PutsOne {X = Unit {0}} (Err fault) cemi at) s t → WhereTold (IsTurnTo wanted asked) s → WhereTold (FailsSo why) t → AsksGoes {X = Unit {0}} wanted asked e f s t (Err why)
+  put_fails fault s t why g h turn cause = record {
+    listens = λ l. tt;
+    moves = λ l. tt;
+    fails = λ l new p.
+        let x = step_of (PutsOne {X = Unit {0}} (Err fault) cemi at) s t new g h p in
+        let now = turn x.old x.told in
+        (cause new p, none_talks x.old x.added new x.grow (x.is now.place) now (l x.old x.told).stands.rightly);
+  }
+
+-- ---- its wait
+
+one_more_on : (wanted : IndAddr) (asked : Asked) (rs ss ts : List Round) → OneMore wanted asked rs ss → GoOn ss ts → OneMore wanted asked rs ts
+one_more_on wanted asked rs [] ts m g = absurd m
+one_more_on wanted asked rs (s ∷ ss) [] m g = absurd g
+one_more_on wanted asked rs (s ∷ ss) (t ∷ ts) m g = (g.0 ∙ m.0, g.1 ∙ m.1)
+
+waited_moves : (wanted : IndAddr) (asked : Asked) (s t u : Story) → Going (AsksOne wanted asked) s t → Going SameRounds t u → Going (AsksOne wanted asked) s u
+waited_moves wanted asked s t u m w new p =
+    let y = w new p in
+    let x = m y.old y.told in
+    record { old = x.old; told = x.told; is = one_more_on wanted asked (rounds (moments x.old)) (rounds (moments y.old)) (rounds (moments new)) x.is y.is }
+
+pub asked_goes : (wanted : IndAddr) (asked : Asked) (e d f : Ear) (s t u : Story) (result : Result (Unit {0}) AssignFault) → AsksGoes {X = Unit {0}} wanted asked e d s t (Ok tt) → TalkGoes SameRounds d f t u result → AsksGoes wanted asked e f s u result
+asked_goes wanted asked e d f s t u (Ok done) m w = record { listens = λ l. w.listens wanted (m.listens l); moves = λ l. waited_moves wanted asked s t u (m.moves l) (w.moves wanted (m.listens l)); fails = λ l. tt }
+asked_goes wanted asked e d f s t u (Err why) m w = record { listens = λ l. tt; moves = λ l. tt; fails = λ l. w.fails wanted (m.listens l) }
+
+-- ---- heard out
+
+apart : (wanted : IndAddr) (asked : Asked) → (asked ≡ Read → ⊥) → Some (frame_of wanted asked) ≡ Some (frame_of wanted Read) → ⊥
+apart wanted asked not e =
+    let same : is_read (Some (frame_of wanted asked)) ≡ is_read (Some (frame_of wanted Read)) = ap is_read e in
+    let no : true ≡ false = sym (same ∙ read_is wanted) ∙ other_isnt wanted asked not in cc
+
+quiet_enough : (wanted : IndAddr) (asked : Asked) (since now : ℕ) → quiet_after asked ≤ now - since → Some (frame_of wanted asked) ≡ Some (frame_of wanted Read) → since + listening_wait ≤ now
+quiet_enough wanted Read since now h e = omega (arith, h)
+quiet_enough wanted Connect since now h e = absurd (apart wanted Connect (λ q. cc) e)
+quiet_enough wanted Write since now h e = absurd (apart wanted Write (λ q. cc) e)
+
+out_by : (wanted : IndAddr) (asked : Asked) (f : Ear) (new : List Placed) (rs before : List Round) → OneMore wanted asked before rs → HearsRounds f rs → f.since ≡ quiet_since (entries new) → HasWaited (quiet_after asked) f new → HeardOut wanted rs (entries new)
+out_by wanted asked f new [] before m h s w = absurd m
+out_by wanted asked f new (r ∷ rs) before m h s w = record {
+  confirmed = λ none. w.confirmed (h.1 ∙ none);
+  quiet = λ reads. subst (λ (n : ℕ). n + listening_wait ≤ newest_time (entries new)) s (quiet_enough wanted asked f.since (newest_time (entries new)) w.enough (sym m.0 ∙ reads));
+}
+
+pub asked_out : (wanted : IndAddr) (asked : Asked) (e f : Ear) (s u : Story) → AsksGoes {X = Unit {0}} wanted asked e f s u (Ok tt) → WhereTold (HasWaited (quiet_after asked) f) u → WhereTold (Listens wanted e) s → WhereTold (IsOut wanted f) u
+asked_out wanted asked e f s u m w l new p =
+    let listens = m.listens l new p in
+    let x = m.moves l new p in
+    record {
+      heard_out = out_by wanted asked f new (rounds (moments new)) (rounds (moments x.old)) x.is listens.hears.rounds_so listens.hears.since (w new p);
+      place = (w new p).place;
+      confirmed = (w new p).confirmed;
+      listens = listens;
+    }
+
+-- ---- by what the client's end of the tunnel told
+
+pub put_told : (wanted : IndAddr) (asked : Asked) (e f : Ear) (cemi : List ℕ) (at : ℕ) → ldata_in cemi ≡ Some (frame_of wanted asked) → Before asked e f → (call : Result (Unit {0}) HubFault) (result : Result (Unit {0}) AssignFault) → ToldAs call result → (s t : Story) → GoesOn s t → Growing (PutsOne call cemi at) s t
+    → WhereTold (IsTurnTo wanted asked) s → WhereTold (CausedBy result) t → AsksGoes wanted asked e f s t result
+put_told wanted asked e f cemi at is b (Ok done) (Ok same) told s t g h turn cause = put_goes wanted asked e f cemi at is b s t g h turn
+put_told wanted asked e f cemi at is b (Ok done) (Err why) told s t g h turn cause = absurd (cc)
+put_told wanted asked e f cemi at is b (Err fault) (Ok done) told s t g h turn cause = absurd (cc)
+put_told wanted asked e f cemi at is b (Err fault) (Err why) told s t g h turn cause = put_fails wanted asked e f cemi at is b fault s t why g h turn cause
+
+-- ---- a request and its wait, where it listened before
+
+pub asked_fails : {X : Type 0} (wanted : IndAddr) (asked : Asked) (e f : Ear) (s u : Story) (result : Result X AssignFault) → AsksGoes wanted asked e f s u result → WhereTold (Listens wanted e) s → TalkFails wanted u result
+asked_fails wanted asked e f s u result m l = m.fails l
+
+pub out_goes : (wanted : IndAddr) (asked : Asked) (e f : Ear) (s u : Story) (result : Result (Unit {0}) AssignFault) → AsksGoes wanted asked e f s u result → OnOk result (WhereTold (HasWaited (quiet_after asked) f) u) → WhereTold (Listens wanted e) s → OnOk result (WhereTold (IsOut wanted f) u)
+out_goes wanted asked e f s u (Ok done) m w l = asked_out wanted asked e f s u m w l
+out_goes wanted asked e f s u (Err why) m w l = tt

@@ -1,0 +1,161 @@
+-- What the calls of the talk come to.
+use Rattle.std.proofs.Common.{◌≡◌, ℕ, ◌<◌, ◌≤◌, List, [], ◌∷◌, ◌++◌, Bool, true, false, Option, Some, None, Result, Ok, Err, refl, sym, ◌∙◌, ap, subst, arith}
+use Rattle.std.specs.Prelude.{OnOk, IfErr, IsErr, IsErrAnd, ◌-◌, ◌^◌, min}
+use Rattle.std.specs.List.{list_any}
+use Rattle.knx_model.specs.declared.address.IndAddr.{IndAddr}
+use Rattle.line_model.specs.declared.fault.HubFault.{HubFault}
+use Rattle.line_model.specs.Record.{Placed, entries, is_poll}
+use Rattle.line_model.specs.LinkStory.{Story, places_in, newest_time}
+use Rattle.line_model.specs.Faults.{datagrams_taken, flood}
+use Rattle.line_model.specs.Moments.{moments}
+use Rattle.tunnel_link.specs.declared.acted.Acted.{Acted}
+use Rattle.tunnel_link.specs.declared.came.Came.{Came}
+use Rattle.tunnel_link.specs.declared.came.Loss.{Loss}
+use Rattle.tunnel_link.specs.declared.came.Loss.TheVariants.{Stays}
+use Rattle.tunnel_link.specs.Adds.{Growing, Acts, Seeks, PollAdds, AllNothing, moments_on}
+use Rattle.tunnel_link.specs.Goes.{GoesOn}
+use Rattle.tunnel_link.specs.Rights.{WhereTold, at_most_64_bits}
+use Rattle.address_commission.specs.declared.assigned.AssignFault.{AssignFault}
+use Rattle.address_commission.specs.declared.assigned.AssignFault.TheVariants.{TunnelLost, LinkFailed, GatewayRefused, Flooded, NoMemory}
+use Rattle.address_commission.specs.declared.ear.Ear.{Ear}
+use Rattle.address_commission.specs.Rounds.{rounds, has_lost}
+use Rattle.address_commission.specs.Talk.{TalksRightly}
+use Rattle.address_commission.specs.Going.{ComesFrom, Going, GoOn, SameRounds}
+use Rattle.address_commission.specs.Listening.{HearsWhat, Listens}
+use Rattle.address_commission.specs.Ends.{FailsSo, ToldAs, CausedBy, EndsFor, TalkGoes}
+use Rattle.address_commission.proofs.Folds.{talks_on, puts_none}
+use Rattle.address_commission.proofs.Heard.{go_same, go_on}
+use Rattle.address_commission.proofs.Steps.{Step, step_of, nothing_talks, nothing_same, nothing_listens, Polled, poll_step, polled_listens}
+
+-- ---- what was so before
+
+-- of the places after a call, what held of those before
+pub before : (P : List Placed → Type 0) (s : Story) (old : List Placed) → WhereTold P s → places_in s ≡ Some old → P old
+before P s old h e = h old e
+
+-- ---- a call that fails
+
+-- a call fails for this, after which all that was put was rightly put
+pub failed : {X : Type 0} (Q : List Placed → List Placed → Type 0) (e f : Ear) (s t : Story) (why : AssignFault) → ((wanted : IndAddr) → WhereTold (Listens wanted e) s → WhereTold (λ places. FailsSo why places × TalksRightly wanted places) t)
+    → TalkGoes {X = X} Q e f s t (Err why)
+failed Q e f s t why fails = record { listens = λ wanted h. tt; moves = λ wanted h. tt; fails = fails }
+
+-- it is told that the client's end of the tunnel failed
+pub told_failed : {X : Type 0} (Q : List Placed → List Placed → Type 0) (e f : Ear) (s t : Story) (why : AssignFault) → WhereTold (FailsSo why) t → ((wanted : IndAddr) → WhereTold (Listens wanted e) s → WhereTold (TalksRightly wanted) t)
+    → TalkGoes {X = X} Q e f s t (Err why)
+told_failed Q e f s t why cause talks = failed Q e f s t why (λ wanted h places p. (cause places p, talks wanted h places p))
+
+-- a `?` hands on this fault
+pub handed_on : {X : Type 0} (result : Result X AssignFault) (why : AssignFault) → IsErr result × IsErrAnd result (λ y. y ≡ why) → result ≡ Err why
+handed_on (Ok x) why h = absurd h.1
+handed_on (Err y) why h = ap (λ (z : AssignFault). Err z) h.1
+
+-- what was told is what the call came to
+pub told_ok : {X : Type 0} (call : Result X HubFault) (x : X) → ToldAs call (Ok x) → call ≡ Ok x
+told_ok {X = X} (Ok y) x h = let q : x ≡ y = cc in ap (λ (z : X). Ok z) (sym q)
+told_ok (Err fault) x h = absurd (cc)
+
+-- ---- what is due
+
+pub act_talks : (result : Result Acted HubFault) (e : Ear) (s t : Story) → GoesOn s t → Growing (Acts result) s t → (wanted : IndAddr) → WhereTold (Listens wanted e) s → WhereTold (TalksRightly wanted) t
+act_talks (Ok acted) e s t g h wanted l new p =
+    let x = step_of (Acts (Ok acted)) s t new g h p in
+    nothing_talks wanted e x.old x.added new x.grow x.moments_grow x.is.0 (l x.old x.told).stands.rightly
+act_talks (Err fault) e s t g h wanted l new p =
+    let x = step_of (Acts (Err fault)) s t new g h p in
+    nothing_talks wanted e x.old x.added new x.grow x.moments_grow x.is (l x.old x.told).stands.rightly
+
+-- by what became of the channel
+pub act_goes : (result : Result (Unit {0}) AssignFault) (acted : Acted) (e : Ear) (s t : Story) → GoesOn s t → Growing (Acts (Ok acted)) s t → OnOk result (acted.loss ≡ Stays) → IfErr result (λ fault. (fault ≡ TunnelLost) × (acted.loss ≡ Stays → ⊥))
+    → TalkGoes SameRounds e e s t result
+act_goes (Ok done) acted e s t g h stays lost = record {
+  listens = λ wanted l new p.
+      let x = step_of (Acts (Ok acted)) s t new g h p in
+      nothing_listens wanted e x.old x.added new x.grow x.moments_grow x.is.0 x.is.1.only_sends (l x.old x.told);
+  moves = λ wanted l new p.
+      let x = step_of (Acts (Ok acted)) s t new g h p in
+      record { old = x.old; told = x.told; is = nothing_same wanted e x.old x.added new x.grow x.moments_grow x.is.0 };
+  fails = λ wanted l. tt;
+}
+act_goes (Err why) acted e s t g h stays lost =
+    failed SameRounds e e s t why (λ wanted l new p. let x = step_of (Acts (Ok acted)) s t new g h p in absurd (lost.1 x.is.1.loss))
+
+-- ---- a new channel
+
+pub seek_talks : (result : Result Bool HubFault) (e : Ear) (s t : Story) → GoesOn s t → Growing (Seeks result) s t → (wanted : IndAddr) → WhereTold (Listens wanted e) s → WhereTold (TalksRightly wanted) t
+seek_talks result e s t g h wanted l new p =
+    let x = step_of (Seeks result) s t new g h p in
+    nothing_talks wanted e x.old x.added new x.grow x.moments_grow x.is.nothing (l x.old x.told).stands.rightly
+
+seek_sends : (sought : Bool) (old added : List Placed) → Seeks (Ok sought) old added → list_any (λ (p : Placed). is_poll p.what.what) added ≡ false
+seek_sends true old added h = h.so.0
+seek_sends false old added h = rw h.so.0 refl
+
+pub seek_goes : (sought : Bool) (e : Ear) (s t : Story) → GoesOn s t → Growing (Seeks (Ok sought)) s t → TalkGoes {X = Unit {0}} SameRounds e e s t (Ok tt)
+seek_goes sought e s t g h = record {
+  listens = λ wanted l new p.
+      let x = step_of (Seeks (Ok sought)) s t new g h p in
+      nothing_listens wanted e x.old x.added new x.grow x.moments_grow x.is.nothing (seek_sends sought x.old x.added x.is) (l x.old x.told);
+  moves = λ wanted l new p.
+      let x = step_of (Seeks (Ok sought)) s t new g h p in
+      record { old = x.old; told = x.told; is = nothing_same wanted e x.old x.added new x.grow x.moments_grow x.is.nothing };
+  fails = λ wanted l. tt;
+}
+
+-- ---- a poll
+
+pub poll_talks : (result : Result Came HubFault) (why : AssignFault) → ToldAs result (Err why) → (e : Ear) (s t : Story) → GoesOn s t → Growing (PollAdds result) s t → (wanted : IndAddr) → WhereTold (Listens wanted e) s → WhereTold (TalksRightly wanted) t
+poll_talks (Ok came) why told e s t g h wanted l new p = absurd (cc)
+poll_talks (Err fault) why told e s t g h wanted l new p =
+    let x = step_of (PollAdds (Err fault)) s t new g h p in
+    subst (TalksRightly wanted) (sym x.grow) (talks_on wanted x.old x.added (puts_none (moments_on x.old x.added) x.is.puts_none) (l x.old x.told).stands.rightly)
+
+-- a count of 64 bits, and what it counts
+counted : (n k : ℕ) → k < 2 ^ 64 - 1 → (min n (2 ^ 64 - 1) < k → n < k) × (k ≤ min n (2 ^ 64 - 1) → k ≤ n)
+counted n k lt = (λ h. omega (arith, h, lt), λ h. omega (arith, h, lt))
+
+module _ (came : Came) (e f : Ear) (now taken : ℕ) (s t : Story) (g : GoesOn s t) (h : Growing (PollAdds (Ok came)) s t) (w : HearsWhat came.what now e f) (at : WhereTold (λ places. now ≡ newest_time (entries places)) t)
+    (counts : WhereTold (λ places. taken ≡ at_most_64_bits (datagrams_taken (entries places))) t) where
+  polled : (wanted : IndAddr) (new : List Placed) → WhereTold (Listens wanted e) s → places_in t ≡ Some new → (x : Step (PollAdds (Ok came)) s new) → Polled wanted f came.loss x.old new
+  polled wanted new l p x = poll_step wanted e f came now x.old x.added new x.grow x.moments_grow x.is w (at new p) (l x.old x.told)
+
+  step : (new : List Placed) → places_in t ≡ Some new → Step (PollAdds (Ok came)) s new
+  step new p = step_of (PollAdds (Ok came)) s t new g h p
+
+  pub poll_floods : {X : Type 0} → 16777216 ≤ taken → TalkGoes {X = X} SameRounds e f s t (Err Flooded)
+  poll_floods many = failed SameRounds e f s t Flooded (λ wanted l new p.
+      let q = polled wanted new l p (step new p) in
+      let reached : flood ≤ datagrams_taken (entries new) = (counted (datagrams_taken (entries new)) flood (omega arith)).1 (subst (λ (n : ℕ). flood ≤ n) (counts new p) many) in
+      (omega (arith, reached, q.at_most), q.rightly))
+
+  pub poll_ends : (result : Result (Unit {0}) AssignFault) → OnOk result ((taken < 16777216) × (came.loss ≡ Stays)) → IfErr result (λ why. EndsFor why taken came.loss) → TalkGoes SameRounds e f s t result
+  poll_ends (Ok done) stays lost = record {
+    listens = λ wanted l new p.
+        let x = step new p in
+        let few : datagrams_taken (entries new) < flood = (counted (datagrams_taken (entries new)) flood (omega arith)).0 (subst (λ (n : ℕ). n < flood) (counts new p) stays.0) in
+        polled_listens wanted f came.loss x.old new (polled wanted new l p x) stays.1 few;
+    moves = λ wanted l new p. let x = step new p in record { old = x.old; told = x.told; is = (polled wanted new l p x).same };
+    fails = λ wanted l. tt;
+  }
+  poll_ends (Err Flooded) stays lost = poll_floods lost
+  poll_ends (Err TunnelLost) stays lost = failed SameRounds e f s t TunnelLost (λ wanted l new p.
+      let q = polled wanted new l p (step new p) in
+      (q.lost lost, q.rightly))
+  poll_ends (Err LinkFailed) stays lost = absurd lost
+  poll_ends (Err (GatewayRefused three)) stays lost = absurd lost
+  poll_ends (Err (NoMemory want)) stays lost = absurd lost
+
+-- ---- one call after another
+
+same_then : (s t u : Story) → Going SameRounds s t → Going SameRounds t u → Going SameRounds s u
+same_then s t u a b new p =
+    let y = b new p in
+    let x = a y.old y.told in
+    record { old = x.old; told = x.told; is = go_on (rounds (moments x.old)) (rounds (moments y.old)) (rounds (moments new)) x.is y.is }
+
+pub goes_same : (e : Ear) (s : Story) → TalkGoes {X = Unit {0}} SameRounds e e s s (Ok tt)
+goes_same e s = record { listens = λ wanted l. l; moves = λ wanted l new p. record { old = new; told = p; is = go_same (rounds (moments new)) }; fails = λ wanted l. tt }
+
+pub goes_then : {X Y : Type 0} (x : X) (e d f : Ear) (s t u : Story) (result : Result Y AssignFault) → TalkGoes {X = X} SameRounds e d s t (Ok x) → TalkGoes SameRounds d f t u result → TalkGoes SameRounds e f s u result
+goes_then x e d f s t u (Ok y) a b = record { listens = λ wanted l. b.listens wanted (a.listens wanted l); moves = λ wanted l. same_then s t u (a.moves wanted l) (b.moves wanted (a.listens wanted l)); fails = λ wanted l. tt }
+goes_then x e d f s t u (Err why) a b = record { listens = λ wanted l. tt; moves = λ wanted l. tt; fails = λ wanted l. b.fails wanted (a.listens wanted l) }

@@ -1,0 +1,16 @@
+use Rattle.std.proofs.Common.{subst, sym}
+use Rattle.tunnel_link.specs.Adds.{Growing, Acts}
+use Rattle.address_commission.specs.Going.{SameRounds}
+use Rattle.address_commission.specs.Ends.{TalkGoes}
+use Rattle.address_commission.proofs.Calls.{handed_on, told_ok, told_failed, act_talks, act_goes}
+use Rattle.address_commission.proofs.turn.act.Goals as goal
+
+pub returns-in_err-acted-clause-goes : goal.returns-in_err-acted-clause-goes
+returns-in_err-acted-clause-goes g c e =
+    subst (λ r. TalkGoes SameRounds e e (g.L.Link.story c.args.tunnel.now.link) (g.L.Link.story c.act-acted.new.self.link) r) (sym (handed_on c.from_residual.result _ c.from_residual.ensures))
+    (told_failed SameRounds e e _ _ _ c.in_err-acted.ensures.cause (act_talks c.act-acted.result e _ _ c.act-acted.ensures.grows c.act-acted.ensures.adds))
+
+pub returns-clause-goes : goal.returns-clause-goes
+returns-clause-goes g c e =
+    act_goes c.kept.result c.in_ok-acted.acted e _ _ c.act-acted.ensures.grows
+    (subst (λ r. Growing (Acts r) (g.L.Link.story c.args.tunnel.now.link) (g.L.Link.story c.act-acted.new.self.link)) (told_ok c.act-acted.result c.in_ok-acted.acted c.in_ok-acted.ensures.same) c.act-acted.ensures.adds) c.kept.ensures.stays c.kept.ensures.lost

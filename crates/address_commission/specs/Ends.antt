@@ -1,0 +1,107 @@
+-- How giving an address ends, by the link's record: what came of it is read off the talk, in which the channel wasn't lost and few datagrams came;
+-- after that the channel is ended, and no request is put. A fault comes exactly at its cause.
+use Rattle.std.specs.Prelude.{◌≡◌, ℕ, ◌<◌, ◌≤◌, true, List, reverse, Result, Ok, Err, OnOk, IfErr}
+use Rattle.knx_model.specs.declared.address.IndAddr.{IndAddr}
+use Rattle.knx_model.specs.Outside.{Rose}
+use Rattle.line_model.specs.declared.fault.HubFault.{HubFault}
+use Rattle.line_model.specs.declared.fault.HubFault.TheVariants as hub
+use Rattle.line_model.specs.Record.{Placed, entries}
+use Rattle.line_model.specs.Moments.{moments}
+use Rattle.line_model.specs.Faults.{datagrams_taken, flood, tries}
+use Rattle.address_commission.specs.Rounds.{rounds, has_lost}
+use Rattle.address_commission.specs.Talk.{Gives, HeardOut, TalksRightly}
+use Rattle.line_model.specs.LinkStory.{Story}
+use Rattle.tunnel_link.specs.declared.came.Loss.{Loss}
+use Rattle.tunnel_link.specs.declared.came.Loss.TheVariants.{Stays}
+use Rattle.tunnel_link.specs.Rights.{WhereTold}
+use Rattle.address_world.specs.declared.asked.Asked.{Asked}
+use Rattle.address_commission.specs.Going.{Going, GoesOnFrom, AsksOne}
+use Rattle.address_commission.specs.Listening.{Listens, Stands}
+use Rattle.address_commission.specs.declared.ear.Ear.{Ear}
+use Rattle.address_commission.specs.declared.assigned.Assigned.{Assigned}
+use Rattle.address_commission.specs.declared.assigned.AssignFault.{AssignFault}
+use Rattle.address_commission.specs.declared.assigned.AssignFault.TheVariants.{TunnelLost, LinkFailed, GatewayRefused, Flooded, NoMemory}
+
+-- the fault of the client's end of the tunnel
+abbrev pub fault_of : HubFault → AssignFault
+fault_of (hub.NoMemory want) = NoMemory want
+fault_of hub.LinkFailed = LinkFailed
+fault_of (hub.GatewayRefused three) = GatewayRefused three
+fault_of hub.Flooded = Flooded
+fault_of (hub.WrongLine device tunnel) = Flooded
+
+-- ---- what came of it
+
+-- of the places up to the answer
+pub record AnsweredBy (wanted : IndAddr) (assigned : Assigned) (talk : List Placed) : Type 0 where
+  pub stands : Stands wanted talk
+  pub heard_out : HeardOut wanted (rounds (moments talk)) (entries talk)
+  pub gives : Gives wanted (rounds (moments talk)) assigned
+
+-- and of those after it, in which no request is put
+pub record Answered (wanted : IndAddr) (assigned : Assigned) (places : List Placed) : Type 0 where
+  pub talk : List Placed
+  pub answered : AnsweredBy wanted assigned talk
+  pub closes : GoesOnFrom talk places
+  pub rightly : TalksRightly wanted places
+
+-- ---- faults
+
+abbrev pub FailsSo : AssignFault → List Placed → Type 0
+FailsSo TunnelLost places = has_lost (moments places) ≡ true
+FailsSo LinkFailed places = Unit {0}
+FailsSo (GatewayRefused three) places = tries (entries places) ≡ reverse three
+FailsSo Flooded places = datagrams_taken (entries places) ≡ flood
+FailsSo (NoMemory want) places = Unit {0}
+
+abbrev pub EndsSo : IndAddr → Result Assigned AssignFault → List Placed → Type 0
+EndsSo wanted (Ok assigned) places = Answered wanted assigned places
+EndsSo wanted (Err fault) places = FailsSo fault places × TalksRightly wanted places
+
+-- that the link failed is told only where its count of faults rose
+abbrev pub FailsBy : AssignFault → ℕ → ℕ → Type 0
+FailsBy TunnelLost old new = Unit {0}
+FailsBy LinkFailed old new = Rose old new
+FailsBy (GatewayRefused three) old new = Unit {0}
+FailsBy Flooded old new = Unit {0}
+FailsBy (NoMemory want) old new = Unit {0}
+
+-- why a poll ends the talk, by how many datagrams were taken and what became of the channel
+abbrev pub EndsFor : AssignFault → ℕ → Loss → Type 0
+EndsFor TunnelLost taken loss = ¬ (loss ≡ Stays)
+EndsFor LinkFailed taken loss = ⊥
+EndsFor (GatewayRefused three) taken loss = ⊥
+EndsFor Flooded taken loss = flood ≤ taken
+EndsFor (NoMemory want) taken loss = ⊥
+
+-- ---- a call of the talk
+
+-- it is told that the client's end of the tunnel failed
+abbrev pub ToldAs : {X : Type 0} → Result X HubFault → Result X AssignFault → Type 0
+ToldAs (Ok x) result = result ≡ Ok x
+ToldAs (Err fault) result = result ≡ Err (fault_of fault)
+
+abbrev pub CausedBy : {X : Type 0} → Result X AssignFault → List Placed → Type 0
+CausedBy (Ok x) places = Unit {0}
+CausedBy (Err fault) places = FailsSo fault places
+
+-- where it listened before it does afterwards, and P holds of how the places went on; where it failed, its cause is there, and all that was put was rightly put
+pub record TalkGoes {X : Type 0} (P : List Placed → List Placed → Type 0) (e f : Ear) (before after : Story) (result : Result X AssignFault) : Type 0 where
+  pub listens : (wanted : IndAddr) → WhereTold (Listens wanted e) before → OnOk result (WhereTold (Listens wanted f) after)
+  pub moves : (wanted : IndAddr) → WhereTold (Listens wanted e) before → OnOk result (Going P before after)
+  pub fails : (wanted : IndAddr) → WhereTold (Listens wanted e) before → IfErr result (λ fault. WhereTold (λ places. FailsSo fault places × TalksRightly wanted places) after)
+
+-- the same of a call that puts a request, whose turn has come: where it listened before it does afterwards, and the newest round is the request's
+pub record AsksGoes {X : Type 0} (wanted : IndAddr) (asked : Asked) (e f : Ear) (before after : Story) (result : Result X AssignFault) : Type 0 where
+  pub listens : WhereTold (Listens wanted e) before → OnOk result (WhereTold (Listens wanted f) after)
+  pub moves : WhereTold (Listens wanted e) before → OnOk result (Going (AsksOne wanted asked) before after)
+  pub fails : WhereTold (Listens wanted e) before → IfErr result (λ fault. WhereTold (λ places. FailsSo fault places × TalksRightly wanted places) after)
+
+-- it failed at its cause, and all that was put was rightly put
+abbrev pub TalkFails : {X : Type 0} → IndAddr → Story → Result X AssignFault → Type 0
+TalkFails wanted after result = IfErr result (λ fault. WhereTold (λ places. FailsSo fault places × TalksRightly wanted places) after)
+
+-- the end of the channel: no request is put
+pub record ClosesSo (wanted : IndAddr) (old new : List Placed) : Type 0 where
+  pub goes_on : GoesOnFrom old new
+  pub rightly : TalksRightly wanted old → TalksRightly wanted new

@@ -1,0 +1,90 @@
+//! What is due, and one poll.
+
+ghost use Rattle.std.specs.Prelude.{◌≡◌, ◌<◌, ◌≤◌, IfErr, OnOk, None};
+ghost use Rattle.address_commission.specs.Ends.{EndsFor, FailsBy, TalkGoes};
+ghost use Rattle.address_commission.specs.Going.{SameRounds};
+ghost use Rattle.address_commission.specs.declared.ear.Ear.{Ear as HeldEar};
+
+use crate::assigned::AssignFault;
+use crate::ear::Ear;
+use crate::told::told;
+use line_model::Link;
+use tunnel_link::{Loss, Tunnel};
+
+/// So many datagrams, awaited connection state responses aside, are the most that are taken.
+const FLOOD: u64 = 16_777_216;
+
+/// Does what is due, and makes one poll of at most so many milliseconds.
+pub fn turn<L: Link>(
+    tunnel: &mut Tunnel<L>,
+    ear: &mut Ear,
+    longest_ms: u32,
+) -> Result<(), AssignFault>
+    requires stands { tunnel.old.known.fault ≡ None }
+    ensures goes { TalkGoes SameRounds ear.old ear.new (L.story tunnel.old.link) (L.story tunnel.new.link) result }
+    ensures stands { OnOk result (tunnel.new.known.fault ≡ None) }
+    ensures cause { IfErr result (λ fault. FailsBy fault (L.faults tunnel.old.link) (L.faults tunnel.new.link)) }
+    ensures count { L.faults tunnel.old.link ≤ L.faults tunnel.new.link }
+    ensures script { L.script tunnel.new.link ≡ L.script tunnel.old.link }
+{
+    act(tunnel)?;
+    poll(tunnel, ear, longest_ms)
+}
+
+/// Does what is due by the time.
+pub fn act<L: Link>(tunnel: &mut Tunnel<L>) -> Result<(), AssignFault>
+    requires stands { tunnel.old.known.fault ≡ None }
+    ensures goes { (e : HeldEar) → TalkGoes SameRounds e e (L.story tunnel.old.link) (L.story tunnel.new.link) result }
+    ensures stands { OnOk result (tunnel.new.known.fault ≡ None) }
+    ensures cause { IfErr result (λ fault. FailsBy fault (L.faults tunnel.old.link) (L.faults tunnel.new.link)) }
+    ensures count { L.faults tunnel.old.link ≤ L.faults tunnel.new.link }
+    ensures script { L.script tunnel.new.link ≡ L.script tunnel.old.link }
+{
+    let acted = tunnel.act();
+    let acted = told(tunnel, acted)?;
+    kept(acted.loss)
+}
+
+/// Whether the channel stays.
+fn kept(loss: Loss) -> Result<(), AssignFault>
+    ensures stays { OnOk result (loss ≡ Loss.Stays) }
+    ensures lost { IfErr result (λ fault. (fault ≡ AssignFault.TunnelLost) × ¬ (loss ≡ Loss.Stays)) }
+{
+    match loss {
+        Loss::Stays => Ok(()),
+        Loss::Ended | Loss::Told => Err(AssignFault::TunnelLost),
+    }
+}
+
+/// Makes one poll of at most so many milliseconds.
+pub fn poll<L: Link>(
+    tunnel: &mut Tunnel<L>,
+    ear: &mut Ear,
+    longest_ms: u32,
+) -> Result<(), AssignFault>
+    requires stands { tunnel.old.known.fault ≡ None }
+    ensures goes { TalkGoes SameRounds ear.old ear.new (L.story tunnel.old.link) (L.story tunnel.new.link) result }
+    ensures stands { OnOk result (tunnel.new.known.fault ≡ None) }
+    ensures cause { IfErr result (λ fault. FailsBy fault (L.faults tunnel.old.link) (L.faults tunnel.new.link)) }
+    ensures count { L.faults tunnel.old.link ≤ L.faults tunnel.new.link }
+    ensures script { L.script tunnel.new.link ≡ L.script tunnel.old.link }
+{
+    let polled = tunnel.poll(longest_ms);
+    let came = told(tunnel, polled)?;
+    let now = tunnel.now();
+    *ear = ear.hears(&came.what, now);
+    tunnel.keeps();
+    let taken = tunnel.taken();
+    ended(taken, came.loss)
+}
+
+/// Whether the talk goes on after a poll.
+fn ended(taken: u64, loss: Loss) -> Result<(), AssignFault>
+    ensures goes_on { OnOk result ((taken < 16777216) × (loss ≡ Loss.Stays)) }
+    ensures ends { IfErr result (λ why. EndsFor why taken loss) }
+{
+    if taken >= FLOOD {
+        return Err(AssignFault::Flooded);
+    }
+    kept(loss)
+}

@@ -1,0 +1,60 @@
+//! Waiting until a request is confirmed, and a listening is over.
+
+ghost use Rattle.std.specs.Prelude.{◌≡◌, ◌≤◌, IfErr, OnOk, None, true};
+ghost use Rattle.tunnel_link.specs.Rights.{WhereTold};
+ghost use Rattle.address_commission.specs.Ends.{FailsBy, TalkGoes};
+ghost use Rattle.address_commission.specs.Going.{SameRounds};
+ghost use Rattle.address_commission.specs.Listening.{HasWaited};
+
+use crate::assigned::AssignFault;
+use crate::ear::Ear;
+use crate::turn::turn;
+use line_model::{LONGEST_POLL_MS, Link};
+use std::sync::Wait;
+use tunnel_link::Tunnel;
+
+/// Waits until the last request is acknowledged and confirmed, and so many milliseconds in turn were quiet.
+pub fn wait_out<R: Wait, L: Link>(
+    rt: &R,
+    tunnel: &mut Tunnel<L>,
+    ear: &mut Ear,
+    quiet_ms: u32,
+) -> Result<(), AssignFault>
+    requires stands { tunnel.old.known.fault ≡ None }
+    ensures goes { TalkGoes SameRounds ear.old ear.new (L.story tunnel.old.link) (L.story tunnel.new.link) result }
+    ensures waited { OnOk result (WhereTold (HasWaited quiet_ms ear.new) (L.story tunnel.new.link)) }
+    ensures stands { OnOk result (tunnel.new.known.fault ≡ None) }
+    ensures cause { IfErr result (λ fault. FailsBy fault (L.faults tunnel.old.link) (L.faults tunnel.new.link)) }
+    ensures count { L.faults tunnel.old.link ≤ L.faults tunnel.new.link }
+    ensures script { L.script tunnel.new.link ≡ L.script tunnel.old.link }
+{
+    for _ in rt.forever() {
+        if has_waited(tunnel, ear, quiet_ms) {
+            return Ok(());
+        }
+        let longest_ms = rest(ear, tunnel.now(), quiet_ms);
+        turn(tunnel, ear, longest_ms)?;
+    }
+    unreachable!()
+}
+
+/// Whether the last request is acknowledged and confirmed, and so many milliseconds in turn were quiet.
+fn has_waited<L: Link>(tunnel: &Tunnel<L>, ear: &Ear, quiet_ms: u32) -> bool
+    requires stands { tunnel.now.known.fault ≡ None }
+    ensures { result ≡ true → WhereTold (HasWaited quiet_ms ear.now) (L.story tunnel.now.link) }
+{
+    let has_place = tunnel.has_place();
+    let passed = tunnel.now().saturating_sub(ear.since);
+    has_place && ear.confirmed.is_some() && passed >= u64::from(quiet_ms)
+}
+
+/// How long the next poll may last: no longer than the listening.
+fn rest(ear: &Ear, now: u64, quiet_ms: u32) -> u32 {
+    let passed = now.saturating_sub(ear.since);
+    let quiet = u64::from(quiet_ms);
+    if ear.confirmed.is_some() && passed < quiet {
+        (quiet - passed) as u32
+    } else {
+        LONGEST_POLL_MS
+    }
+}

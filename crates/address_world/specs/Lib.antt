@@ -1,0 +1,4 @@
+pub mod AddressWorld
+pub mod AddressLegal
+pub mod AddressStory
+pub mod Keeps

@@ -1,0 +1,43 @@
+-- A run that nothing disturbs: its script has no lines but those of group telegrams and of standard devices, and the device of each job is on the line, in
+-- one of the projects. In such a run nothing fails: time passes only where nothing is awaited, no job fails, and no group telegram is lost. A job is
+-- refused only where its device, with what it kept when the job was taken, doesn't give each answer that is wanted. So where the run isn't broken off each
+-- load was told done, each check done exactly where an earlier job loads its device or its device began with the new image, and else refused, and each
+-- group telegram sent.
+use Rattle.std.specs.Prelude.{◌≡◌, ◌≢◌, ◌⊎◌, ℕ, true, false, List, Some, None}
+use Rattle.std.specs.List.{AllByRecursion}
+use Rattle.bus_sim.specs.RunNow.{RunNow, start}
+use Rattle.line_model.specs.declared.group.GroupTurn.{GroupTurn}
+use Rattle.line_model.specs.declared.log.LogEntry.{LogEntry}
+use Rattle.line_model.specs.declared.log.LogWhat.TheVariants.{Sent}
+use Rattle.line_model.specs.declared.log.Report.{Report}
+use Rattle.line_model.specs.Lines.{script_of}
+use Rattle.line_model.specs.Log.{Job, job_of, turn_of}
+use Rattle.line_model.specs.StartOf.{is_on_bus}
+use Rattle.line_model.specs.Undisturbed as line
+use Rattle.line_model.specs.Undisturbed.{IsPrompt, RefusesRightly}
+use Rattle.line_model.specs.World.{World}
+use Rattle.calm_law.specs.CalmChecks.{RunsByThen}
+use Rattle.calm_law.specs.CalmEnds.{Told, IsToldDone, IsToldRefused}
+use Rattle.knx_top.specs.Headline.{OfItsJobs}
+use Rattle.knx_top.specs.Ran.{Commission, log_in}
+
+-- ---- the script and the projects
+
+pub record IsUndisturbed (c : Commission) (jobs : List Job) : Type 0 where
+  pub says : line.IsUndisturbed (script_of c.script)
+  pub devices : AllByRecursion (λ (job : Job). is_on_bus c.project c.before job.device.raw ≡ true) jobs
+
+-- ---- what comes of it
+
+pub record AllServed (jobs : List Job) (turns : List GroupTurn) (start : World) (log : List LogEntry) : Type 0 where
+  pub loads : (k : ℕ) (job : Job) → job_of jobs k ≡ Some job → job.loads ≡ true → IsToldDone k log
+  pub checks : (k : ℕ) (job : Job) → job_of jobs k ≡ Some job → job.loads ≡ false → (IsToldDone k log × RunsByThen jobs start k job) ⊎ (IsToldRefused k log × ¬ RunsByThen jobs start k job)
+  pub telegrams : (k : ℕ) → turn_of turns k ≢ None → Told (λ what. what ≡ Sent k) log
+
+pub record NothingFails (jobs : List Job) (turns : List GroupTurn) (r : RunNow) (report : Report) : Type 0 where
+  pub prompt : IsPrompt jobs (start r) (log_in report) r.events
+  pub refuses : RefusesRightly jobs (start r) r.events (log_in report)
+  pub served : report.fault ≡ None → AllServed jobs turns (start r) (log_in report)
+
+abbrev pub EndsUndisturbed : Commission → RunNow → Report → Type 0
+EndsUndisturbed c r report = OfItsJobs c (λ jobs. IsUndisturbed c jobs → NothingFails jobs c.turns r report)
