@@ -1,5 +1,1 @@
-pub mod Counts
-pub mod Next
-pub mod Senders
-pub mod Writes
 pub mod Exit

@@ -1,3 +1,1 @@
-pub mod Datagrams
-pub mod Disk
 pub mod Exit

@@ -2,23 +2,10 @@
 //! sockets, and its exit status is that call's. Nothing is written to standard error.
 #![tactic(auto)]
 
-mod clients;
-mod dial;
-mod disk;
 mod ended;
-mod link;
-mod output;
-mod port;
-mod socket;
-#[cfg(test)]
-mod stops;
-mod words;
 
-use crate::dial::UdpDialer;
-use crate::disk::Disk;
 use crate::ended::status_of;
-use crate::output::Output;
-use crate::words::words_of;
+use knx_edge::{Disk, Output, UdpDialer, words_of};
 use knx_top::SimBus;
 use line_model::Open;
 use std::process::ExitCode;

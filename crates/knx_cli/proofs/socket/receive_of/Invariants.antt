@@ -1,5 +1,0 @@
-use Rattle.knx_cli.specs.Datagrams.{PassesOver}
-use Rattle.knx_cli.proofs.socket.receive_of.Given as goal
-
-abbrev pub invariant-loop : goal.invariant-loop
-invariant-loop g l = PassesOver l.senders (g.S.Datagrams.coming l.fn.socket) (g.S.Datagrams.coming l.socket)

@@ -1,0 +1,4 @@
+pub mod Counts
+pub mod Next
+pub mod Senders
+pub mod Writes
