@@ -13,12 +13,17 @@ use denote.Param.SendFields.{FieldsHave, as_row_send, declared_send}
 use denote.Struct.Field.{row_field}
 use denote.Struct.Tuple.{TupleAt, parts, type_at}
 use denote.Struct.Declared.{shape}
-use Rattle.std.proofs.Crossing.{crosses}
+use Rattle.std.proofs.Crossing.{crosses, Box-send}
+use Rattle.std.specs.contracts.alloc.Global as heap
+use Rattle.std.specs.contracts.boxed.Box as Box
+use Rattle.std.specs.contracts.impls.GlobalAllocator.TheImpl.{ghosts}
 use Rattle.line_model.specs.declared.outside.link.Link.{Ghosts}
 use Rattle.hub_core.proofs.hub.Hub.TheSendSync as hub
 use Rattle.telegram_router.proofs.ends.Feed.TheSendSync as feed
 use Rattle.turn_cell.proofs.seat.Seat.TheSendSync as seat
 use Rattle.turn_cell.proofs.turn.Turn.TheSendSync as turn
+use Rattle.turn_cell.specs.declared.logged.Logged.{Ghosts as Logged}
+use Rattle.turn_cell.specs.contracts.logged.BoxLogged.TheImpl as boxed
 use Rattle.turn_cell.specs.contracts.seat.Seat as Seat
 use Rattle.turn_cell.specs.contracts.turn.Turn as Turn
 use Rattle.shared_hub.proofs.listener.Listener.TheSendSync as listener
@@ -36,18 +41,28 @@ fields_send T g s = recorded_send (inside.the_field T g).row _ _ (inside.the_typ
 pub site_send : (T : RattleType) (g : Ghosts T.Denot) → IsSend T → IsSend (the_row T g)
 site_send T g s = search (sendable, fields_send T g s)
 
+-- in a box
+abbrev pub box_row : (T : RattleType) → Ghosts T.Denot → RattleType
+box_row T g = Box.the_row (the_row T g) heap.the_row ghosts
+
+pub box_send : (T : RattleType) (g : Ghosts T.Denot) → IsSend T → IsSend (box_row T g)
+box_send T g s = Box-send (the_row T g) (site_send T g s)
+
+abbrev pub in_box : (T : RattleType) (g : Ghosts T.Denot) → Logged (box_row T g).Denot (Item.the_row T g).Denot
+in_box T g = boxed.ghosts (the_row T g) (Item.the_row T g) (logged.ghosts T g logged.no_dict logged.no_dict) boxed.no_dict boxed.no_dict
+
 -- its cell, and a seat at the cell
 abbrev pub cell_row : (T : RattleType) → Ghosts T.Denot → RattleType
-cell_row T g = Turn.the_row (the_row T g) (Item.the_row T g) (logged.ghosts T g logged.no_dict logged.no_dict)
+cell_row T g = Turn.the_row (box_row T g) (Item.the_row T g) (in_box T g)
 
 abbrev pub seat_row : (T : RattleType) → Ghosts T.Denot → RattleType
-seat_row T g = Seat.the_row (the_row T g) (Item.the_row T g) (logged.ghosts T g logged.no_dict logged.no_dict)
+seat_row T g = Seat.the_row (box_row T g) (Item.the_row T g) (in_box T g)
 
 pub cell_sync : (T : RattleType) (g : Ghosts T.Denot) → IsSend T → IsSync (cell_row T g)
-cell_sync T g s = turn.the_sync (the_row T g) (Item.the_row T g) (logged.ghosts T g logged.no_dict logged.no_dict) (site_send T g s)
+cell_sync T g s = turn.the_sync (box_row T g) (Item.the_row T g) (in_box T g) (box_send T g s)
 
 pub seat_send : (T : RattleType) (g : Ghosts T.Denot) → IsSend T → IsSend (seat_row T g)
-seat_send T g s = seat.the_send (the_row T g) (Item.the_row T g) (logged.ghosts T g logged.no_dict logged.no_dict) (site_send T g s)
+seat_send T g s = seat.the_send (box_row T g) (Item.the_row T g) (in_box T g) (box_send T g s)
 
 each_send : (Ts : List RattleType) → AllSend Ts → FieldsHave IsSend (parts Ts)
 each_send [] s = tt

@@ -18,9 +18,9 @@ use Rattle.shared_hub.specs.declared.item.Item.TheVariants.{Told, Ended}
 use Rattle.shared_hub.specs.declared.site.Step.{Step}
 use Rattle.shared_hub.specs.declared.site.Step.TheVariants.{Took, Moved, Waits, Ready, Failed}
 use Rattle.shared_hub.specs.declared.site.Step.TheVariants as step
-use Rattle.shared_hub.specs.Items.{HasFinished, IsOf}
+use Rattle.shared_hub.specs.Items.{relay_in, HasFinished, IsOf}
 use Rattle.shared_hub.specs.Sites.{SiteSeen, items_of}
-use Rattle.shared_hub.specs.Steps.{HasFailed, Steps, Polls}
+use Rattle.shared_hub.specs.Steps.{HasFailed, OrPolls, Steps, Polls}
 use Rattle.shared_hub.specs.Works.{Leads, Stays, Sees, AllAt, Got, ComesTo, IsDone, WasDone, AllDone}
 use Rattle.shared_hub.proofs.Items.{opens_after, relays_after}
 
@@ -71,6 +71,24 @@ module _ {L : Type 0} where
   -- a call after one that added nothing
   pub steps_then : (is_through : List (Item L) → Type 0) (worker : ℕ) (old between new : List (Item L)) (r : Step) → between ≡ old → Steps is_through worker between new r → Steps is_through worker old new r
   steps_then is_through worker old between new r same s = subst (λ (l : List (Item L)). Steps is_through worker l new r) same s
+
+  then_same : (is_through : List (Item L) → Type 0) (worker : ℕ) (old between new : List (Item L)) (came r : Step) → Steps is_through worker old between came → new ≡ between → r ≡ came → Steps is_through worker old new r
+  then_same is_through worker old between new came r s same is = subst (λ (z : Step). Steps is_through worker old new z) (sym is) (subst (λ (l : List (Item L)). Steps is_through worker old l came) (sym same) s)
+
+  -- a call and, where it could do nothing, at most a poll: a step of whoever makes them
+  pub polls_then : (is_through : List (Item L) → Type 0) (worker : ℕ) (old between new : List (Item L)) (came r : Step) → Steps is_through worker old between came → OrPolls came between new r → Steps is_through worker old new r
+  polls_then is_through worker old between new Waits r s p = steps_then is_through worker old between new r s (poll_steps is_through worker between new r p)
+  polls_then is_through worker old between new (Took job) r s p = then_same is_through worker old between new (Took job) r s p.0 p.1
+  polls_then is_through worker old between new step.Told r s p = then_same is_through worker old between new step.Told r s p.0 p.1
+  polls_then is_through worker old between new Moved r s p = then_same is_through worker old between new Moved r s p.0 p.1
+  polls_then is_through worker old between new Ready r s p = then_same is_through worker old between new Ready r s p.0 p.1
+  polls_then is_through worker old between new Failed r s p = then_same is_through worker old between new Failed r s p.0 p.1
+
+  -- a turn leaves the site its relay
+  pub relay_kept : (is_through : List (Item L) → Type 0) (worker : ℕ) (old new : SiteSeen L) (came : Step) → Steps is_through worker (items_of old) (items_of new) came → new.relay.value ≡ old.relay.value
+  relay_kept is_through worker old new came s =
+      let z : relay_in (items_of new) ≡ Some old.relay.value = relays_after (items_of old) (items_of new) old.relay.value (step_grows is_through worker (items_of old) (items_of new) came s) refl in
+      cc
 
   -- ---- places
 

@@ -37,6 +37,11 @@ module _ {L : Type 0} where
   Polls old new Failed = HasFailed old new
   Polls old new _ = ⊥
 
+  -- what a call came to and, where it could do nothing, at most a poll
+  abbrev pub OrPolls : Step → List (Item L) → List (Item L) → Step → Type 0
+  OrPolls Waits old new result = Polls old new result
+  OrPolls came old new result = (new ≡ old) × (result ≡ came)
+
 -- ---- whether the hub goes on
 
 -- it has no fault, and something is left for it

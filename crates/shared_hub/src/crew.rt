@@ -18,12 +18,12 @@ use turn_cell::{Seat, Turn};
 
 fn worked<R: Wait, L: Link, G: Gate>(
     rt: &R,
-    cell: &Turn<Site<L>>,
+    cell: &Turn<Box<Site<L>>>,
     relay: &Relay,
-    mut seat: Seat<Site<L>>,
+    mut seat: Seat<Box<Site<L>>>,
     worker: u8,
     gate: &G,
-) -> Seat<Site<L>>
+) -> Seat<Box<Site<L>>>
     requires of { seat.cell ≡ cell.now.id }
     requires free { seat.turn ≡ false }
     requires from_1 { 1 ≤ worker }
@@ -38,11 +38,11 @@ fn worked<R: Wait, L: Link, G: Gate>(
 /// Sends the group telegrams, and listens until no worker is left.
 fn sent<R: Wait, L: Link>(
     rt: &R,
-    cell: &Turn<Site<L>>,
+    cell: &Turn<Box<Site<L>>>,
     relay: &Relay,
-    mut seat: Seat<Site<L>>,
+    mut seat: Seat<Box<Site<L>>>,
     mut listener: Listener,
-) -> (Seat<Site<L>>, Listener)
+) -> (Seat<Box<Site<L>>>, Listener)
     requires of { seat.cell ≡ cell.now.id }
     requires free { seat.turn ≡ false }
     requires leads { Leads 0 relay.now seat.seen }
@@ -59,12 +59,12 @@ fn sent<R: Wait, L: Link>(
 /// The workers from 1 to `count`, each in a thread of its own.
 fn all_worked<R: Threads + Wait + Sync, L: Link + Send, G: Gate + Sync>(
     rt: &R,
-    cell: &Turn<Site<L>>,
+    cell: &Turn<Box<Site<L>>>,
     relay: &Relay,
-    mut seat: Seat<Site<L>>,
+    mut seat: Seat<Box<Site<L>>>,
     count: u8,
     gate: &G,
-) -> Seat<Site<L>>
+) -> Seat<Box<Site<L>>>
     requires of { seat.cell ≡ cell.now.id }
     requires free { seat.turn ≡ false }
     requires some { 1 ≤ count }
@@ -79,11 +79,11 @@ fn all_worked<R: Threads + Wait + Sync, L: Link + Send, G: Gate + Sync>(
     let other = cell.split(&mut seat);
     let (mut all, last) = join(
         rt,
-        move || -> Seat<Site<L>>
+        move || -> Seat<Box<Site<L>>>
             requires { IsSync R.row × IsSync G.row × (seat.cell ≡ cell.now.id) × (seat.turn ≡ false) × (1 < count) × (count ≤ seat.parts + 1) × Leads count relay.now seat.seen }
             ensures { Sees seat result × AllDone (count - 1) result.seen }
         { all_worked(rt, cell, relay, seat, count - 1, gate) },
-        move || -> Seat<Site<L>>
+        move || -> Seat<Box<Site<L>>>
             requires { (other.cell ≡ cell.now.id) × (other.turn ≡ false) × (1 < count) × Leads count relay.now other.seen }
             ensures { Sees other result × WasDone (HasFinished count) result.seen }
         { worked(rt, cell, relay, other, count, gate) },
@@ -96,8 +96,8 @@ fn all_worked<R: Threads + Wait + Sync, L: Link + Send, G: Gate + Sync>(
 /// leave, and who listened.
 pub fn all_done<R: Threads + Wait + Sync, L: Link + Send, G: Gate + Sync>(
     rt: &R,
-    cell: Turn<Site<L>>,
-    first: Seat<Site<L>>,
+    cell: Turn<Box<Site<L>>>,
+    first: Seat<Box<Site<L>>>,
     relay: &Relay,
     listener: Listener,
     workers: u8,
@@ -121,11 +121,11 @@ pub fn all_done<R: Threads + Wait + Sync, L: Link + Send, G: Gate + Sync>(
     // where no thread can be made the first comes last, when there is nothing more to wait for
     let ((last, listener), mut all) = join(
         rt,
-        move || -> (Seat<Site<L>>, Listener)
+        move || -> (Seat<Box<Site<L>>>, Listener)
             requires { (group.cell ≡ shared.now.id) × (group.turn ≡ false) × Leads 0 relay.now group.seen × (listener.router ≡ relay.now) }
             ensures { Sees group result.0 × WasDone HasTold result.0.seen × (result.1.router ≡ relay.entry.now) }
         { sent(rt, shared, relay, group, listener) },
-        move || -> Seat<Site<L>>
+        move || -> Seat<Box<Site<L>>>
             requires { IsSync R.row × IsSync G.row × (seat.cell ≡ shared.now.id) × (seat.turn ≡ false) × (1 ≤ workers) × (workers ≤ seat.parts) × Leads workers relay.now seat.seen }
             ensures { Sees seat result × AllDone workers result.seen }
         {
@@ -135,5 +135,5 @@ pub fn all_done<R: Threads + Wait + Sync, L: Link + Send, G: Gate + Sync>(
         },
     );
     cell.join(&mut all, last);
-    (cell.close(all), listener)
+    (Box::into_inner(cell.close(all)), listener)
 }

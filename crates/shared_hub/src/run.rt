@@ -8,10 +8,11 @@ ghost use Rattle.hub_core.specs.Seen.{tasks_seen};
 ghost use Rattle.hub_work.specs.declared.job.HubJob.{HubJob as JobOfHub};
 ghost use Rattle.hub_work.specs.Requests.{IsTurnInRange};
 ghost use Rattle.line_model.specs.LinkStory.{IsNewLink};
-ghost use Rattle.shared_hub.specs.Sites.{IsOpening};
+ghost use Rattle.shared_hub.specs.Sites.{IsOpening, items_of};
 ghost use Rattle.shared_hub.specs.Ends.{HasEndedSo};
 ghost use Rattle.shared_hub.specs.Runs.{RunsOf};
 ghost use Rattle.telegram_router.specs.Ends.{first_ear, first_feed};
+ghost use Rattle.turn_cell.specs.Seats.{first_seat};
 
 use crate::crew::all_done;
 use crate::ending::Ending;
@@ -22,11 +23,11 @@ use hub_core::{GroupTurn, Hub, HubFault, HubJob};
 use knx_model::{List, NoMemory};
 use line_law::every_safe_interleaving;
 use line_model::{Gate, Link, Report};
-use std::alloc::Global;
+use std::alloc::{AllocError, AllocFailed, Global};
 use std::sync::Wait;
 use std::thread::Threads;
 use telegram_router::Feed;
-use turn_cell::Turn;
+use turn_cell::{Seat, Turn};
 
 /// A relay with both its ends.
 #[derive(Drop)]
@@ -103,6 +104,33 @@ fn ended<R: Wait, L: Link>(
     Ending { hub, heard }.end(rt, ended)
 }
 
+/// What a box had no memory for.
+fn handed_back<T: Drop>(refused: AllocFailed<T>) -> (T, NoMemory)
+    ensures { result.0 ≡ refused.value }
+{
+    let AllocFailed { value } = refused;
+    (value, NoMemory::from(AllocError))
+}
+
+/// A cell with this site, in a box, and the cell's first seat. A refusal hands the site back.
+fn cell_of<L: Link>(
+    alloc: Global,
+    site: Site<L>,
+) -> Result<(Turn<Box<Site<L>>>, Seat<Box<Site<L>>>), (Site<L>, NoMemory)>
+    ensures opening { IfOk result (λ made. made.0.opening ≡ items_of site) }
+    ensures seat { IfOk result (λ made. made.1 ≡ first_seat made.0) }
+    ensures refused { IfErr result (λ back. back.0 ≡ site) }
+{
+    let boxed = match Box::new(alloc, site) {
+        Ok(boxed) => boxed,
+        Err(refused) => return Err(handed_back(refused)),
+    };
+    match Turn::new(alloc, boxed) {
+        Ok(made) => Ok(made),
+        Err((boxed, no_memory)) => Err((Box::into_inner(boxed), no_memory)),
+    }
+}
+
 /// A run from its beginning to its end.
 fn run<R: Threads + Wait + Sync, L: Link + Send, G: Gate + Sync>(
     rt: &R,
@@ -125,7 +153,7 @@ fn run<R: Threads + Wait + Sync, L: Link + Send, G: Gate + Sync>(
         feed,
         listener,
     } = listening;
-    match Turn::new(alloc, Site::new(hub, &relay, feed)) {
+    match cell_of(alloc, Site::new(hub, &relay, feed)) {
         Ok((cell, seat)) => {
             let (site, listener) = all_done(rt, cell, seat, &relay, listener, workers, gate);
             site.keeps();

@@ -15,9 +15,9 @@ use turn_cell::{Seat, Turn};
 /// One turn of a worker.
 fn turn<R: Wait, L: Link>(
     rt: &R,
-    cell: &Turn<Site<L>>,
+    cell: &Turn<Box<Site<L>>>,
     relay: &Relay,
-    seat: &mut Seat<Site<L>>,
+    seat: &mut Seat<Box<Site<L>>>,
     worker: u8,
 ) -> Step
     requires of { seat.old.cell ≡ cell.now.id }
@@ -38,9 +38,9 @@ fn turn<R: Wait, L: Link>(
 /// passed between taking a job and starting it.
 pub fn work<R: Wait, L: Link, G: Gate>(
     rt: &R,
-    cell: &Turn<Site<L>>,
+    cell: &Turn<Box<Site<L>>>,
     relay: &Relay,
-    seat: &mut Seat<Site<L>>,
+    seat: &mut Seat<Box<Site<L>>>,
     worker: u8,
     gate: &G,
 )
@@ -66,9 +66,9 @@ pub fn work<R: Wait, L: Link, G: Gate>(
 /// One turn of the group thread.
 fn group_turn<R: Wait, L: Link>(
     rt: &R,
-    cell: &Turn<Site<L>>,
+    cell: &Turn<Box<Site<L>>>,
     relay: &Relay,
-    seat: &mut Seat<Site<L>>,
+    seat: &mut Seat<Box<Site<L>>>,
 ) -> Step
     requires of { seat.old.cell ≡ cell.now.id }
     requires free { seat.old.turn ≡ false }
@@ -86,9 +86,9 @@ fn group_turn<R: Wait, L: Link>(
 /// Sends the group telegrams in the order of their numbers, turn by turn, until each is told, or the run has ended; and listens between its turns.
 pub fn send_groups<R: Wait, L: Link>(
     rt: &R,
-    cell: &Turn<Site<L>>,
+    cell: &Turn<Box<Site<L>>>,
     relay: &Relay,
-    seat: &mut Seat<Site<L>>,
+    seat: &mut Seat<Box<Site<L>>>,
     listener: &mut Listener,
 )
     requires of { seat.old.cell ≡ cell.now.id }

@@ -13,3 +13,14 @@ pub trait Logged: Drop {
     fn entries(&self) -> u64
         ensures { result + 1 ≡ length (list self.now) };
 }
+
+/// A state in a box has the list of its value. Only the box's address is moved at each turn.
+impl<S: Logged> Logged for Box<S> {
+    type Entry = S::Entry;
+
+    ghost list = { λ boxed. S.list boxed.value };
+
+    fn entries(&self) -> u64 {
+        (**self).entries()
+    }
+}

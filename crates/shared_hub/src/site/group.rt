@@ -25,10 +25,8 @@ impl<L: Link> Site<L> {
         let Some(k) = self.hub.next_group() else {
             return Step::Ready;
         };
-        match self.send(k) {
-            Step::Waits if !self.hub.is_busy() => self.poll(rt, relay),
-            came => came,
-        }
+        let came = self.send(k);
+        self.or_polls(rt, relay, came)
     }
 
     /// The next step of the telegram `k`, which is the least that isn't told.

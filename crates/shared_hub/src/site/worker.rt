@@ -48,10 +48,8 @@ impl<L: Link> Site<L> {
         ensures steps { Steps (HasFinished worker) worker (items_of self.old) (items_of self.new) result }
         ensures on { GoesOn result self.new.hub }
     {
-        match self.work(worker) {
-            Step::Waits if !self.hub.is_busy() => self.poll(rt, relay),
-            came => came,
-        }
+        let came = self.work(worker);
+        self.or_polls(rt, relay, came)
     }
 
     /// A worker's next step, while something is left.

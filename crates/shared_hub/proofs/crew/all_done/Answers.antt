@@ -3,7 +3,8 @@ use denote.Param.{param}
 use denote.Param.Send.{arg_send, arg_sync, param_send, param_sync}
 use Rattle.std.proofs.Common.{ap, arith, subst, sym, ◌∙◌}
 use Rattle.shared_hub.specs.Items.{HasTold}
-use Rattle.shared_hub.specs.Works.{Leads}
+use Rattle.shared_hub.specs.Sites.{items_of}
+use Rattle.shared_hub.specs.Works.{AllDone, Leads, WasDone}
 use Rattle.shared_hub.proofs.Sends.{both_send, group_send}
 use Rattle.shared_hub.proofs.Works.{all_later, leads_fewer, was_later}
 use Rattle.shared_hub.proofs.crew.all_done.Goals as goal
@@ -37,7 +38,7 @@ join-last-requires-after_bounds g c κs within =
     )
 
 pub returns-clause-done : goal.returns-clause-done
-returns-clause-done g c = all_later c.args.workers _ _ c.close.ensures.seen (all_later c.args.workers _ _ c.join.ensures.begins.0 c.join-last.ensures.second.1)
+returns-clause-done g c = subst (λ s. AllDone c.args.workers (items_of s)) (sym c.into_inner.ensures) (all_later c.args.workers _ _ c.close.ensures.seen (all_later c.args.workers _ _ c.join.ensures.begins.0 c.join-last.ensures.second.1))
 
 pub returns-clause-told : goal.returns-clause-told
-returns-clause-told g c = was_later HasTold _ _ c.close.ensures.seen (was_later HasTold _ _ c.join.ensures.begins.1 c.join-last.ensures.first.1)
+returns-clause-told g c = subst (λ s. WasDone HasTold (items_of s)) (sym c.into_inner.ensures) (was_later HasTold _ _ c.close.ensures.seen (was_later HasTold _ _ c.join.ensures.begins.1 c.join-last.ensures.first.1))
