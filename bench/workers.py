@@ -1,9 +1,9 @@
 """What several downloaders cost and gain: one line loaded by 1, 2, 4 and 8 of them.
 
-    python3 bench/workers.py [--prog ./crates/knx_cli/out/knx_cli] [--devices 254] [--served 32] [--answer 0.05] [--runs 3]
+    python3 bench/workers.py [--prog ./crates/knx_cli/out/knx_cli] [--devices 254] [--served 32] [--answer 0.05] [--runs 11]
 
-First `sim` of so many devices, over blank devices with an empty script: of the best run seconds by the clock, events on the line, events in a second, and
-what part of those with one downloader that is. Then `download` of as many as --served from a `gateway` on this machine, with 1 and 4 downloaders: seconds by the clock, and datagrams that
+First `sim` of so many devices, over blank devices with an empty script, by turns with each number of downloaders: seconds by the clock in the median and in the best run, events on the
+line, events in a second, in the median, and what part of those with one downloader that is, in the median and in the best runs. Then `download` of as many as --served from a `gateway` on this machine, with 1 and 4 downloaders: seconds by the clock, and datagrams that
 were sent by either. At last the same, where each answer of a device takes as long as --answer says: a relay stands between client and gateway, which ends the
 tunnel on both sides and hands on what a device sends so much later. Each run has to end with a job done for each device.
 """
@@ -12,6 +12,7 @@ import heapq
 import pathlib
 import select
 import socket
+import statistics
 import subprocess
 import tempfile
 import threading
@@ -152,7 +153,7 @@ def main():
     parser.add_argument("--devices", type=int, default=254)
     parser.add_argument("--served", type=int, default=32)
     parser.add_argument("--answer", type=float, default=0.05)
-    parser.add_argument("--runs", type=int, default=3)
+    parser.add_argument("--runs", type=int, default=11)
     args = parser.parse_args()
     prog = str(pathlib.Path(args.prog).resolve())
     with tempfile.TemporaryDirectory() as name:
@@ -160,12 +161,13 @@ def main():
         (folder / "empty").touch()
         (folder / "new").write_text(project(args.devices, 8, 32), encoding="utf-8")
         (folder / "old").write_text(project(args.served, 8, 32), encoding="utf-8")
-        print(f"sim of {args.devices} devices\nworkers seconds   events events/s of 1")
-        alone = None
-        for workers in (1, 2, 4, 8):
-            seconds, events = min(simulated(prog, folder, args.devices, workers) for _ in range(args.runs))
-            alone = alone or events / seconds
-            print(f"{workers:7} {seconds:7.3f} {events:8} {events / seconds:8.0f} {events / seconds / alone:4.2f}", flush=True)
+        print(f"sim of {args.devices} devices\nworkers  median    best   events events/s of 1  best")
+        rounds = [{workers: simulated(prog, folder, args.devices, workers) for workers in (1, 2, 4, 8)} for _ in range(args.runs)]
+        for workers in rounds[0]:
+            median, best = (lambda it, of=of: of(round[it][0] for round in rounds) for of in (statistics.median, min))
+            events = rounds[0][workers][1]
+            parts = [of(1) / of(workers) * events / rounds[0][1][1] for of in (median, best)]
+            print(f"{workers:7} {median(workers):7.3f} {best(workers):7.3f} {events:8} {events / median(workers):8.0f} {parts[0]:4.2f} {parts[1]:5.2f}", flush=True)
         for answer in (0, args.answer):
             print(f"download of {args.served} devices over UDP, {f'each answer after {answer:g} s' if answer else 'answers at once'}\nworkers seconds datagrams")
             for workers in (1, 4):
