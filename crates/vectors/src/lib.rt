@@ -5,8 +5,6 @@
 #[cfg(test)]
 mod connections;
 #[cfg(test)]
-mod datagrams;
-#[cfg(test)]
 mod devices;
 #[cfg(test)]
 mod examples;
@@ -17,8 +15,6 @@ mod generated;
 #[cfg(test)]
 mod line_reports;
 #[cfg(test)]
-mod link_frames;
-#[cfg(test)]
 mod load_events;
 #[cfg(test)]
 mod parameters;
@@ -28,7 +24,5 @@ mod plans;
 mod projects;
 #[cfg(test)]
 mod requests;
-#[cfg(test)]
-mod services;
 #[cfg(test)]
 mod telegrams;
