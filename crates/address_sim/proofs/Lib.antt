@@ -1,0 +1,10 @@
+mod Walks
+pub mod Places
+pub mod Lost
+pub mod Seen
+pub mod Held
+pub mod Quiet
+pub mod Polling
+pub mod Links
+pub mod Waiting
+pub mod Carried

@@ -1,0 +1,24 @@
+use Rattle.std.proofs.Common.{refl}
+use Rattle.line_model.specs.LinkStory.{Sends}
+use Rattle.line_model.specs.Record.{Put}
+use Rattle.line_model.specs.World as world
+use Rattle.address_world.specs.AddressWorld.{Send}
+use Rattle.address_sim.specs.Told.{happened, story}
+use Rattle.address_sim.proofs.Links.{RunsLater, added_later, either_later, err_stays, ok_adds}
+use Rattle.address_sim.proofs.link.AddressBusLink.send.Goals as goal
+
+later : (c : goal.After-send_to_run) → RunsLater c.args.self.now.run c.send_to_run.new.self.run
+later c = either_later c.send_to_run.result c.args.self.now.run c.send_to_run.new.self.run (happened c.args.self.now.run (Send c.args.octets.now)) c.send_to_run.ensures.went c.send_to_run.ensures.err
+    (added_later (Put c.args.octets.now) (Send c.args.octets.now) c.args.self.now.run (happened c.args.self.now.run (Send c.args.octets.now)) refl refl refl)
+
+pub returns-clause-sent : goal.returns-clause-sent
+returns-clause-sent c = ok_adds (Put c.args.octets.now) (Send c.args.octets.now) (world.Send c.args.octets.now) c.send_to_run.result c.args.self.now.run c.send_to_run.new.self.run refl refl c.send_to_run.ensures.went
+
+pub returns-clause-failed : goal.returns-clause-failed
+returns-clause-failed c = err_stays (Sends c.args.octets.now (story c.args.self.now.run) (story c.send_to_run.new.self.run)) c.send_to_run.result c.args.self.now.run c.send_to_run.new.self.run c.send_to_run.ensures.err
+
+pub returns-clause-time : goal.returns-clause-time
+returns-clause-time c = (later c).time
+
+pub returns-clause-events : goal.returns-clause-events
+returns-clause-events c = (later c).entries

@@ -1,0 +1,10 @@
+pub mod Losses
+pub mod Told
+pub mod Follows
+pub mod EventCode
+pub mod Kept
+pub mod Noted
+pub mod Units
+pub mod Held
+pub mod Turns
+pub mod Driven

@@ -1,0 +1,65 @@
+//! The simulated bus is driven: its run is called, and the calls that fail are counted.
+
+ghost use Rattle.std.specs.Prelude.{◌≡◌, ◌≤◌, OnErr, OnOk};
+ghost use Rattle.line_model.specs.Polled.{FailsWhere, PollsSo};
+ghost use Rattle.address_world.specs.AddressWorld.{Send, Renew};
+ghost use Rattle.address_sim.specs.Told.{happened, story, time};
+
+use crate::bus::{AddressBus, take_run};
+use crate::poll::fill;
+use line_model::{LinkFault, Polled};
+
+impl AddressBus {
+    /// The client sends a datagram. At `Err` nothing has happened.
+    pub(crate) fn send_to_run(&mut self, octets: &[u8]) -> Result<(), LinkFault>
+        ensures went { OnOk result (self.new.run ≡ happened self.old.run (Send octets.now)) }
+        ensures err { OnErr result (self.new.run ≡ self.old.run) }
+        ensures faults { self.new.faults ≡ self.old.faults }
+        ensures cause { FailsWhere result self.old.faults self.new.faults }
+    {
+        let mut run = take_run(self.alloc, &mut self.run)?;
+        let sent = run.send(octets);
+        self.run = Some(run);
+        sent?;
+        Ok(())
+    }
+
+    /// The client takes the next endpoint. At `Err` nothing has happened.
+    pub(crate) fn renew_run(&mut self) -> Result<(), LinkFault>
+        ensures went { OnOk result (self.new.run ≡ happened self.old.run Renew) }
+        ensures err { OnErr result (self.new.run ≡ self.old.run) }
+        ensures faults { self.new.faults ≡ self.old.faults }
+        ensures cause { FailsWhere result self.old.faults self.new.faults }
+    {
+        let mut run = take_run(self.alloc, &mut self.run)?;
+        let renewed = run.renew();
+        self.run = Some(run);
+        renewed?;
+        Ok(())
+    }
+
+    /// All goes on until the client gets a datagram or the wait is over. Only at the last time of 64 bits does it fail otherwise than for want of memory.
+    pub(crate) fn poll_run(
+        &mut self,
+        into: &mut [u8; 512],
+        wait_ms: u32,
+    ) -> Result<Polled, LinkFault>
+        ensures polled { PollsSo result into.new wait_ms (time self.new.run) (story self.old.run) (story self.new.run) }
+        ensures begun { self.new.run.begun ≡ self.old.run.begun }
+        ensures count { self.old.faults ≤ self.new.faults }
+        ensures cause { FailsWhere result self.old.faults self.new.faults }
+    {
+        let mut run = take_run(self.alloc, &mut self.run)?;
+        if u64::from(wait_ms) > u64::MAX - run.now() {
+            self.run = Some(run);
+            self.faults = self.faults.saturating_add(1);
+            return Err(LinkFault::Failed);
+        }
+        let polled = run.poll(wait_ms);
+        self.run = Some(run);
+        match polled? {
+            Some(octets) => Ok(Polled::Got(fill(into, &octets))),
+            None => Ok(Polled::Quiet),
+        }
+    }
+}

@@ -1,0 +1,21 @@
+//! The simulated bus on which individual addresses are given (ISO/IEC 14543-3-1 and 3-5): units behind a tunnel, of which a text says what is lost. It is
+//! driven as a link, and tells the world behind it.
+#![tactic(auto)]
+
+mod bus;
+mod carry;
+mod driving;
+mod events;
+mod frames;
+mod going;
+mod happened;
+mod link;
+mod losses;
+mod noted;
+mod poll;
+mod run;
+mod units;
+
+pub use address_world::{AddressLink, IndAddr, Unit, UnitLoss, UnitScript};
+pub use bus::AddressBus;
+pub use line_model::{Link, LinkFault, Polled};

@@ -1,0 +1,3 @@
+pub mod UnitAddress
+pub mod UnitText
+pub mod UnitSpelling
