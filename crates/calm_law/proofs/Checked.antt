@@ -1,6 +1,6 @@
 -- On a calm line a check that is over was told done where its device was loaded by a job before it, or began with the image, and else refused.
 use Rattle.std.proofs.Common.{◌≡◌, ◌≢◌, ◌⊎◌, ℕ, zero, suc, ◌-◌, ◌<◌, ◌≤◌, Bool, true, false, cond, List, [], ◌∷◌, ◌++◌, length, drop, Option, Some, None, refl, sym, ap, subst, ◌∙◌, append_assoc, inl, inr, arith}
-use Rattle.std.specs.Prelude.{◌&&◌, ◌||◌, ◌==◌, nat_le, nat_lt}
+use Rattle.std.specs.Prelude.{◌==◌, nat_le}
 use Rattle.std.specs.List.{AllByRecursion, list_any}
 use Rattle.std.proofs.lemmas.Bool.{and_parts, and_from, cases_order, eqb-true, eq-eqb}
 use Rattle.std.proofs.lemmas.Bool.Decides.{nat_tests}
@@ -18,7 +18,7 @@ use Rattle.line_model.specs.OldStoppedOrNew.{Both, DoneSo, EachDoneSo, IsDoneOf,
 use Rattle.line_model.specs.OldStoppedOrNew as moment
 use Rattle.line_model.specs.Undisturbed.{NothingFailed, RefusesSo, RefusesRightly, world_at}
 use Rattle.line_model.specs.World.{World, Event, replay}
-use Rattle.calm_law.specs.CalmChecks.{IsAnsweredRightly, HaveOneImage, IsLoadedBefore, BeganSo, RunsByThen, ChecksExactly}
+use Rattle.calm_law.specs.CalmChecks.{IsAnsweredRightly, HaveOneImage, BeganSo, RunsByThen, ChecksExactly}
 use Rattle.calm_law.specs.CalmEnds.{EndWell, IsToldDone, IsToldRefused}
 use Rattle.calm_law.proofs.Ended.{calm_drop, capable_at, end_well}
 use Rattle.calm_law.proofs.LogParts.{Split, told_split, untaken_before, untaken_where_taken, over_above, form_below, alone_below, later_places, taken_split, free_over, earlier_taken, none_at}

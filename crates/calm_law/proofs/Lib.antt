@@ -13,6 +13,7 @@ pub mod Confirmations
 pub mod Ends
 pub mod Law
 pub mod Tries
+pub mod TunnelTold
 pub mod Scripts
 pub mod Phases
 pub mod Books

@@ -1,5 +1,5 @@
 -- The log from an entry on down, and how the state of a job goes on from there.
-use Rattle.std.proofs.Common.{◌≡◌, ◌≢◌, ℕ, ◌<◌, ◌≤◌, Bool, true, false, ◌&&◌, List, [], ◌∷◌, ◌++◌, Some, refl, sym, ap, subst, ◌∙◌, inl, inr, arith}
+use Rattle.std.proofs.Common.{◌≡◌, ◌≢◌, ℕ, ◌<◌, ◌≤◌, Bool, true, false, ◌&&◌, List, [], ◌∷◌, ◌++◌, refl, sym, ap, subst, ◌∙◌, inl, inr, arith}
 use Rattle.std.specs.Prelude.{nat_lt, ◌||◌}
 use Rattle.std.specs.List.{AllByRecursion, list_any}
 use Rattle.std.proofs.lemmas.Bool.{eqb-true, or_parts}
@@ -8,7 +8,7 @@ use Rattle.line_model.specs.declared.group.GroupTurn.{GroupTurn}
 use Rattle.line_model.specs.declared.log.LogEntry.{LogEntry}
 use Rattle.line_model.specs.declared.log.LogWhat.{LogWhat}
 use Rattle.line_model.specs.declared.log.LogWhat.TheVariants.{Took, Done, Failed, Refused, Sent, Lost}
-use Rattle.line_model.specs.Log.{Job, JobState, Untaken, Held, Over, SameDevice, EndsHeld, IsFree, IsLog, MayFollow, OneDownloaderPerDevice, TakesFree, ends_it, job_of, latest, state_after, state_of}
+use Rattle.line_model.specs.Log.{Job, JobState, Untaken, Held, Over, SameDevice, EndsHeld, IsFree, IsLog, MayFollow, OneDownloaderPerDevice, TakesFree, ends_it, job_of, latest, state_of}
 use Rattle.calm_law.specs.CalmEnds.{Told}
 use Rattle.calm_law.proofs.Held.{IsTo, TakesIt, EndsIt, Else, is_to, after_other, after_took, after_end, took_since, ended_not, taken_is}
 

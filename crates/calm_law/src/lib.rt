@@ -1,7 +1,7 @@
 //! The law of undisturbed lines: where nothing is lost and the client loses no time, time passes only where nothing is awaited, and nothing fails.
 #![tactic(auto)]
 
-ghost use Rattle.std.specs.Prelude.{◌≡◌, ℕ, List, [], ◌∷◌};
+ghost use Rattle.std.specs.Prelude.{◌≡◌, ℕ, IfSome, List, [], ◌∷◌};
 ghost use Rattle.std.specs.List.{AllByRecursion};
 ghost use Rattle.knx_model.specs.declared.address.IndAddr.{IndAddr as Address};
 ghost use Rattle.line_model.specs.Haste.{KeepsPaces};
@@ -13,7 +13,7 @@ ghost use Rattle.line_model.specs.Runs.{begin, job};
 ghost use Rattle.calm_law.specs.CalmSession.{calm_session, told};
 ghost use Rattle.line_model.specs.Tunnel.{TunnelEvent, Commissions, fresh, IsLegal};
 ghost use Rattle.line_model.specs.Calm.{AreCalm as AreCalmEvents};
-ghost use Rattle.line_model.specs.Faults.{tries};
+ghost use Rattle.line_model.specs.Faults.{first_tunnel, tries};
 ghost use Rattle.line_model.specs.Follows.{Follows};
 ghost use Rattle.line_model.specs.Fresh.{IsFresh};
 ghost use Rattle.line_model.specs.Legal.{IsLegal as IsLegalOnLine};
@@ -22,7 +22,7 @@ ghost use Rattle.line_model.specs.Log.{Job};
 ghost use Rattle.line_model.specs.declared.group.GroupTurn.{GroupTurn};
 ghost use Rattle.line_model.specs.declared.log.LogEntry.{LogEntry};
 ghost use Rattle.line_model.specs.Undisturbed.{IsUndisturbed, HasDevices, IsServedJob, IsPrompt, IsUndisturbedRun, PromptWhereUndisturbed, RefusesRightly};
-ghost use Rattle.line_model.specs.World.{World, Event};
+ghost use Rattle.line_model.specs.World.{World, Event, me};
 ghost use Rattle.calm_law.specs.CalmTunnel.{AreCalm, PutsRightly, PassesIdly, KeepsItsChannel};
 ghost use Rattle.calm_law.specs.CalmRun.{gateway, calm_run};
 ghost use Rattle.calm_law.specs.CalmLine.{HaveShortValues, PassesIdlyOnLine};
@@ -89,7 +89,13 @@ pub fn nothing_fails_on_a_calm_line()
         → IsPromptClient jobs turns start events log → AreCalmEvents start events → HaveShortValues start → tries (record_of start events) ≡ [] }
 {}
 
-/// On such a line each check that is over was told done exactly where a job before it loads its device, or its device began with the image, and else it was told
+/// On every line that begins at rest, whatever is lost, repeated or late, the tunnel's address that the first channel's connect response tells is the
+/// gateway's own.
+pub fn the_gateway_tells_its_own_address()
+    ensures { (start : World) (events : List Event) → IsFresh start → IsLegalOnLine Commissions start events → IfSome (first_tunnel (record_of start events)) (λ tunnel. tunnel ≡ me start) }
+{}
+
+/// On a calm line each check that is over was told done exactly where a job before it loads its device, or its device began with the image, and else it was told
 /// refused: if each device answers each load wholly, and each check of the image that it runs, and the jobs of a device have one image. That a device is
 /// untouched before its first load is taken and stays as it is from `done` on, and that what was told done runs, is what the line's law says of good jobs.
 pub fn each_check_is_exact()

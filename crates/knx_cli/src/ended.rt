@@ -72,7 +72,7 @@ pub fn status_of<R: Threads + Wait + Sync, F: Files, K: Sink, D: Dialer, G: Gate
     ensures told { IfOk words.now (λ words. HasRunOf IsToldRightly (map string_bytes words.items) (F.now files.old) sim.old (record { line = sim.new; report = last.new })) }
     ensures thorough { IfOk words.now (λ words. HasRunOf EndsThoroughly (map string_bytes words.items) (F.now files.old) sim.old (record { line = sim.new; report = last.new })) }
     ensures hastens { IfOk words.now (λ words. HasRunOf HasLostNoTime (map string_bytes words.items) (F.now files.old) sim.old (record { line = sim.new; report = last.new })) }
-    ensures undisturbed { IfOk words.now (λ words. HasRunOf EndsUndisturbed (map string_bytes words.items) (F.now files.old) sim.old (record { line = sim.new; report = last.new })) }
+    ensures undisturbed { IfOk words.now (λ words. HasRunOf (EndsUndisturbed (status_of result)) (map string_bytes words.items) (F.now files.old) sim.old (record { line = sim.new; report = last.new })) }
     ensures leaves { IfOk words.now (λ words. HasRunOf LeavesItsChannel (map string_bytes words.items) (F.now files.old) sim.old (record { line = sim.new; report = last.new })) }
     ensures fault { IfOk words.now (λ words. HasRunOf HasFaultRight (map string_bytes words.items) (F.now files.old) sim.old (record { line = sim.new; report = last.new })) }
     ensures over { IfOk words.now (λ words. HasRunOf EndsEveryJob (map string_bytes words.items) (F.now files.old) sim.old (record { line = sim.new; report = last.new })) }

@@ -22,7 +22,7 @@ use Rattle.knx_top.specs.commands.Decode.{TellsOfFrame, octets_or_usage}
 
 -- ---- what was read
 
-abbrev wanting : Reading
+abbrev pub wanting : Reading
 wanting = read.Fault (fault.NoMemory tt)
 
 whole_of : (content : FileContent) (octets : List ℕ) → goes_on (reading_told content) ≡ true → MayRead content limit (Ok octets) → read.Whole octets ≡ reading_told content
@@ -35,7 +35,7 @@ not_there Untold there may = cc
 not_there Absent there may = cc
 not_there (Holds content) there may = may
 
-one_read : (file : List ℕ → FileContent) (turn : Bool) (name : List ℕ) (reading : Reading) → turn ≡ true → goes_on (reading_told (file name)) ≡ true → IsRead file turn (Some name) reading → failed (Some name) reading ≡ None
+pub one_read : (file : List ℕ → FileContent) (turn : Bool) (name : List ℕ) (reading : Reading) → turn ≡ true → goes_on (reading_told (file name)) ≡ true → IsRead file turn (Some name) reading → failed (Some name) reading ≡ None
     → (reading ≡ reading_told (file name)) ⊎ (reading ≡ wanting)
 one_read file turn name read.Unnamed on there is none = absurd (let e : Some name ≡ None = is.1 in cc)
 one_read file turn name read.Unread on there is none = absurd (let e : true ≡ false = sym on ∙ is in cc)
@@ -44,14 +44,14 @@ one_read file turn name (read.Fault fault.NotThere) on there is none = absurd (n
 one_read file turn name (read.Fault fault.Failed) on there is none = absurd cc
 one_read file turn name (read.Fault (fault.NoMemory want)) on there is none = inr refl
 
-named_read : (file : List ℕ → FileContent) (name : Option (List ℕ)) (reading : Reading) → goes_on (named_told file name) ≡ true → IsRead file true name reading → failed name reading ≡ None → (reading ≡ named_told file name) ⊎ (reading ≡ wanting)
+pub named_read : (file : List ℕ → FileContent) (name : Option (List ℕ)) (reading : Reading) → goes_on (named_told file name) ≡ true → IsRead file true name reading → failed name reading ≡ None → (reading ≡ named_told file name) ⊎ (reading ≡ wanting)
 named_read file None read.Unnamed there is none = inl refl
 named_read file None read.Unread there is none = absurd (let e : true ≡ false = is in cc)
 named_read file None (read.Whole octets) there is none = absurd is
 named_read file None (read.Fault why) there is none = absurd is
 named_read file (Some name) reading there is none = one_read file true name reading refl there is none
 
-none_failed : (one : Option (List ℕ)) (faults faults' : List ℕ → ℕ) → ((name : List ℕ) → ¬ Rose (faults name) (faults' name)) → OnlyRose one faults faults' → one ≡ None
+pub none_failed : (one : Option (List ℕ)) (faults faults' : List ℕ → ℕ) → ((name : List ℕ) → ¬ Rose (faults name) (faults' name)) → OnlyRose one faults faults' → one ≡ None
 none_failed None faults faults' still h = refl
 none_failed (Some name) faults faults' still h = absurd (still name h.0)
 
@@ -64,7 +64,7 @@ second_none None None e = refl
 second_none None (Some name) e = absurd cc
 second_none (Some name) other e = absurd cc
 
-no_fault : (name : Option (List ℕ)) (reading : Reading) → goes_on reading ≡ true → fault_in name reading ≡ None
+pub no_fault : (name : Option (List ℕ)) (reading : Reading) → goes_on reading ≡ true → fault_in name reading ≡ None
 no_fault name read.Unnamed on = refl
 no_fault name read.Unread on = refl
 no_fault name (read.Whole octets) on = refl
@@ -86,7 +86,7 @@ second_wants words catalogue project on e =
 
 -- ---- what is told
 
-memory_told : (end : End) → StopsFor (stop.NoMemory tt) end → end_status end ≡ status.NoMemory tt
+pub memory_told : (end : End) → StopsFor (stop.NoMemory tt) end → end_status end ≡ status.NoMemory tt
 memory_told (ends.Stops told) (inl e) = ap stop_status e
 memory_told (ends.Stops told) (inr e) = ap stop_status e
 memory_told (ends.Tells text) h = absurd h
@@ -97,7 +97,7 @@ memory_told (ends.Sums told counts) h = absurd h
 memory_told (ends.Serves served) h = absurd h
 memory_told (ends.Finds searched) h = absurd h
 
-ended : (end : End) (out out' : SinkNow) (ending : Status) → ¬ Rose out.faults out'.faults → Replies out out' ending end → ending ≡ end_status end
+pub ended : (end : End) (out out' : SinkNow) (ending : Status) → ¬ Rose out.faults out'.faults → Replies out out' ending end → ending ≡ end_status end
 ended end out out' ending still (inl wrote) = wrote.0
 ended end out out' ending still (inr refused) = absurd (still refused.2)
 

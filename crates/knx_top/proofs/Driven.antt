@@ -6,7 +6,7 @@ use Rattle.bus_sim.specs.Loaded.{BusNow}
 use Rattle.bus_sim.specs.declared.clients.Clients.{Clients}
 use Rattle.bus_sim.specs.declared.clients.Clients.TheVariants.{One, Any}
 use Rattle.bus_sim.specs.Begun.{mode_of}
-use Rattle.bus_sim.specs.Ended.{FailsAtEnd}
+use Rattle.bus_sim.specs.Ended.{FailsAtEnd, IsAtEnd}
 use Rattle.bus_sim.specs.RunNow.{RunNow, mode, script, start, story, story_of}
 use Rattle.hub_core.specs.Commissioned.{TellsRun}
 use Rattle.hub_core.specs.Promises.{IsRightOver, FaultRightIn, DropsIn, HastensIn, LeavesOver}
@@ -42,7 +42,7 @@ use Rattle.tunnel_link.specs.Goes.{GoesOn}
 use Rattle.tunnel_link.specs.Rights.{FailsWhere, WhereTold}
 use Rattle.knx_top.specs.Begun.{IsOrder}
 use Rattle.knx_top.specs.Jobs.{seen_job}
-use Rattle.knx_top.specs.Ran.{FailsAtLast, IsRunOf, KeepsPromises, Ran, log_in, Commission}
+use Rattle.knx_top.specs.Ran.{FailsAtLast, HasThreeTries, IsRunOf, KeepsPromises, Ran, log_in, Commission}
 use Rattle.knx_top.specs.declared.commands.sim.judge.Order.{Order}
 use Rattle.knx_top.proofs.Meanings.{devices_mean, done_means}
 use Rattle.knx_top.proofs.Telegrams.{telegrams_by_project}
@@ -105,6 +105,9 @@ pub faults_last : (told : Option HubFault) (line : BusNow) → line.run.begun.cl
 faults_last None line one ends cause = tt
 faults_last (Some fault) line one ends cause = fails_last fault line one ends cause
 
+failed_at_end : (told : Option HubFault) (line : BusNow) → IfSome told (λ fault. FailsAtLast fault line) → told ≡ Some LinkFailed → IsAtEnd line.run
+failed_at_end told line cause failed = (subst (λ (o : Option HubFault). IfSome o (λ fault. FailsAtLast fault line)) failed cause).0
+
 -- ---- the premises, and what is promised
 
 is_run : (c : Commission) (order : Order) (r : RunNow) → IsOrder c order → start r ≡ start order.line.run → script r ≡ script order.line.run
@@ -131,8 +134,8 @@ keeps_promises c order r log is run right =
 pub driven : (c : Commission) (order : Order) (workers : ℕ) (turns : List GroupTurn) (line : BusNow) (place : ℕ) (report : Report) → IsOrder c order → workers ≡ c.workers → turns ≡ c.turns → order.line.run.begun.clients ≡ One → GoesOn (story order.line.run) (story line.run) → script line.run ≡ script order.line.run
     → IsFresh (start line.run) → IsLegal (mode line.run) (start line.run) line.run.events → Follows (script line.run) (mode line.run) (start line.run) line.run.events
     → AllByRecursion IsGoodJob (map seen_job order.plans) → TellsRun workers (tasks_seen order.plans) (map (λ (job : HubJob). job.device) order.plans) turns (story line.run) place report
-    → Ran c line.run report order.jobs
-driven c order workers turns line place report is by sends one goes says fresh legal follows good tells =
+    → HasThreeTries report.fault → IfSome report.fault (λ fault. FailsAtLast fault line) → Ran c line.run report order.jobs
+driven c order workers turns line place report is by sends one goes says fresh legal follows good tells tries last =
     let jobs : List Job = map seen_job order.plans in
     let are : AreJobs order.plans jobs = jobs_seen order.plans in
     let of : AreJobsOf (map (λ (job : HubJob). job.device) order.plans) jobs = devices_seen order.plans in
@@ -155,6 +158,8 @@ driven c order workers turns line place report is by sends one goes says fresh l
         hastens = subst (λ (ts : List GroupTurn). LosesNoTimes jobs ts (log_in report) (placed (start line.run) line.run.events)) sends (subst (λ s. HastensIn jobs turns (log_in report) s) whole (tells.hastens jobs are) (placed (start line.run) line.run.events) refl);
         leaves = subst (λ (ts : List GroupTurn). LeavesRightly jobs ts (log_in report) (placed (start line.run) line.run.events)) sends left;
         fault = subst (λ s. FaultRightIn jobs (log_in report) report.fault (record_in s)) whole (tells.fault jobs are);
+        tries = tries;
+        last = failed_at_end report.fault line last;
         ended = λ none. tells.over none jobs of;
         sent = λ none. subst (λ (ts : List GroupTurn). ¬ TurnUnfinished ts (log_in report)) sends (tells.told none);
         in_order = tells.in_order jobs of;

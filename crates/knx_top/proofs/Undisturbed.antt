@@ -1,7 +1,7 @@
 -- In a run that nothing disturbs nothing fails: it begins as the law of calm lines wants, its jobs have plans that each device serves, and its client loses no
 -- time.
-use Rattle.std.proofs.Common.{◌≡◌, ◌≢◌, ◌⊎◌, inl, inr, ℕ, zero, suc, ◌-◌, Bool, true, false, List, [], ◌∷◌, slice_get, Option, Some, None, refl, sym, ap, subst, ◌∙◌, arith}
-use Rattle.std.specs.Prelude.{not, ◌&&◌, ◌||◌, ◌==◌, if◌then◌else◌}
+use Rattle.std.proofs.Common.{◌≡◌, ◌≢◌, inl, inr, ℕ, zero, suc, ◌-◌, Bool, true, false, List, [], ◌∷◌, slice_get, Option, Some, None, refl, sym, ap, subst, ◌∙◌, arith}
+use Rattle.std.specs.Prelude.{IfSome, length, not, reverse, ◌||◌, ◌==◌, if◌then◌else◌}
 use Rattle.std.specs.List.{AllByRecursion, list_all}
 use Rattle.std.proofs.lemmas.Bool.{and_parts}
 use Rattle.std.proofs.lemmas.Bool.Decides.{nat_tests}
@@ -9,6 +9,7 @@ use Rattle.bus_sim.specs.RunNow.{RunNow, start}
 use Rattle.call_words.specs.declared.job_word.JobKind.{JobKind}
 use Rattle.call_words.specs.declared.job_word.JobKind.TheVariants.{Load, Check}
 use Rattle.call_words.specs.declared.job_word.JobWord.{JobWord}
+use Rattle.call_words.specs.declared.status.Status.{Status}
 use Rattle.calm_law.specs.CalmChecks.{ChecksExactly, HaveOneImage, IsAnsweredRightly}
 use Rattle.calm_law.specs.CalmEnds.{Told, IsAnsweredJob, EndWell}
 use Rattle.calm_law.specs.CalmJobs.{HavePower, IsPromptClient}
@@ -29,6 +30,9 @@ use Rattle.knx_model.specs.Promises.{StartOf, BeginsLoaded, BeginsBlank, RunsPro
 use Rattle.knx_model.specs.Served.{IsServed}
 use Rattle.knx_model.specs.Tables.{StandsFor}
 use Rattle.line_law.specs.Safe.{EachAsked}
+use Rattle.line_model.specs.declared.fault.HubFault.{HubFault}
+use Rattle.line_model.specs.declared.fault.HubFault.TheVariants.{NoMemory, LinkFailed, GatewayRefused, Flooded, WrongLine}
+use Rattle.line_model.specs.declared.fault.Try.{Try}
 use Rattle.line_model.specs.declared.group.GroupTurn.{GroupTurn}
 use Rattle.line_model.specs.declared.log.LogEntry.{LogEntry}
 use Rattle.line_model.specs.declared.log.LogWhat.{LogWhat}
@@ -36,22 +40,26 @@ use Rattle.line_model.specs.declared.log.LogWhat.TheVariants.{Took, Done, Failed
 use Rattle.line_model.specs.declared.log.Report.{Report}
 use Rattle.line_model.specs.Asks.{EachRight}
 use Rattle.line_model.specs.Calm.{AreCalm}
+use Rattle.line_model.specs.Faults.{FaultRight, first_elsewhere, first_tunnel, tries}
 use Rattle.line_model.specs.Follows.{Follows}
+use Rattle.line_model.specs.Fresh.{IsFresh}
 use Rattle.line_model.specs.Legal.{IsLegal, OfDevice}
 use Rattle.line_model.specs.Lines.{Script, is_off, says_off, script_of}
 use Rattle.line_model.specs.Log.{Job, Over, TurnUnfinished, has_entry, is_turn, job_of, state_of, turn_of}
 use Rattle.line_model.specs.OldStoppedOrNew.{DoneSo, IsUntouched, MeansWhereDone, RunsWhereDone, StaysDone, world_at}
-use Rattle.line_model.specs.Record.{Placed, placed}
+use Rattle.line_model.specs.Record.{Entry, Placed, placed, record_of}
 use Rattle.line_model.specs.StartOf.{BeginsAs, BusOf, DeviceBegins, is_on_bus}
-use Rattle.line_model.specs.Tunnel.{Commissions}
+use Rattle.line_model.specs.Tunnel.{Commissions, Tunnel}
 use Rattle.line_model.specs.Undisturbed as line
 use Rattle.line_model.specs.Undisturbed.{FailsNot, HasDevices, IsPrompt, IsServedJob, NothingFailed, RefusesRightly, is_undisturbing}
-use Rattle.line_model.specs.World.{World, Event}
+use Rattle.line_model.specs.World.{World, Event, me}
 use Rattle.knx_top.specs.Jobs.{ArePlanned, IsPlanned, is_load, plan_of}
 use Rattle.table_compiler.proofs.Unique.{one_image}
 use Rattle.knx_top.proofs.Meanings.{planned_of}
 use Rattle.knx_top.specs.Ran.{Commission, IsRunOf, IsTold, Ran, log_in}
-use Rattle.knx_top.specs.Undisturbed.{IsUndisturbed, AllServed, NothingFails, EndsUndisturbed}
+use Rattle.knx_top.specs.Undisturbed.{IsUndisturbed, AllServed, EndsSo, NothingFails, EndsUndisturbed}
+use Rattle.knx_top.proofs.Statuses.{AnswersWith, may_end}
+use Rattle.knx_top.proofs.Unbroken.{no_three, none_elsewhere, none_wrong}
 
 -- ---- no device is without power
 
@@ -257,6 +265,9 @@ pub record Laws : Type 0 where
       → RefusesRightly jobs start events log
   pub ended : (jobs : List Job) (turns : List GroupTurn) (start : World) (events : List Event) (log : List LogEntry) → AllByRecursion IsServedJob jobs → HasDevices jobs start → HavePower start → IsPromptClient jobs turns start events log → AreCalm start events → HaveShortValues start
       → EndWell jobs log
+  pub reached : (jobs : List Job) (turns : List GroupTurn) (start : World) (events : List Event) (log : List LogEntry) → AllByRecursion IsServedJob jobs → HasDevices jobs start → HavePower start → IsPromptClient jobs turns start events log → AreCalm start events → HaveShortValues start
+      → tries (record_of start events) ≡ []
+  pub told : (start : World) (events : List Event) → IsFresh start → IsLegal Commissions start events → IfSome (first_tunnel (record_of start events)) (λ tunnel. tunnel ≡ me start)
   pub checks : (jobs : List Job) (turns : List GroupTurn) (start : World) (events : List Event) (log : List LogEntry) → AllByRecursion IsServedJob jobs → HasDevices jobs start → HavePower start → IsPromptClient jobs turns start events log → AreCalm start events → HaveShortValues start
       → IsUntouched jobs start events log → StaysDone jobs start events log → RunsWhereDone jobs start events log → AllByRecursion IsAnsweredRightly jobs → HaveOneImage jobs → ChecksExactly jobs start log
 
@@ -304,8 +315,35 @@ module _ (laws : Laws) (c : Commission) (r : RunNow) (report : Report) (words : 
       telegrams = each_sent c.turns (log_in report) idle.nothing_failed (ran.told.sent none);
     }
 
-    nothing_fails : NothingFails ran.jobs c.turns r report
-    nothing_fails = record { prompt = idle; refuses = laws.refuses ran.jobs c.turns (start r) r.events (log_in report) each_served devices power by calm short; served = served }
+    abbrev record_now : List Entry
+    record_now = record_of (start r) r.events
 
-  pub ends_undisturbed : EndsUndisturbed c r report
-  ends_undisturbed = record { words = words; are = ran.words_are; jobs = ran.jobs; planned = ran.planned; holds = nothing_fails }
+    never_refused : (three : List Try) → length three ≡ 3 → tries record_now ≡ reverse three → ⊥
+    never_refused three are = no_three three (tries record_now) are (laws.reached ran.jobs c.turns (start r) r.events (log_in report) each_served devices power by calm short)
+
+    on_its_line : first_elsewhere ran.jobs (first_tunnel record_now) ≡ None
+    on_its_line =
+        none_elsewhere c.project c.before ran.jobs u.devices (first_tunnel record_now)
+        (subst (λ (a : IndAddr). IfSome (first_tunnel record_now) (λ tunnel. tunnel ≡ a)) (ap (λ (t : Tunnel). t.gateway.tunnel) ran.run.begins.tunnel) (laws.told (start r) r.events ran.run.fresh ran.run.legal))
+
+    ends : (o : Option HubFault) → report.fault ≡ o → FaultRight ran.jobs (log_in report) record_now o → EndsSo ran.jobs c.turns r (log_in report) o
+    ends None e right = served e
+    ends (Some (NoMemory want)) e right = tt
+    ends (Some Flooded) e right = right
+    ends (Some LinkFailed) e right = ran.told.last e
+    ends (Some (GatewayRefused three)) e right = never_refused three (ran.told.tries three e) right
+    ends (Some (WrongLine device tunnel)) e right = none_wrong ran.jobs record_now device tunnel on_its_line right
+
+    ends_now : EndsSo ran.jobs c.turns r (log_in report) report.fault
+    ends_now = ends report.fault refl ran.told.fault
+
+    nothing_fails : (ending : Status) → AnswersWith ending report → NothingFails ending ran.jobs c.turns r report
+    nothing_fails ending answered = record {
+      prompt = idle;
+      refuses = laws.refuses ran.jobs c.turns (start r) r.events (log_in report) each_served devices power by calm short;
+      ends = ends_now;
+      exits = may_end ran.jobs c.turns r report ending ends_now answered;
+    }
+
+  pub ends_undisturbed : (ending : Status) → AnswersWith ending report → EndsUndisturbed ending c r report
+  ends_undisturbed ending answered = record { words = words; are = ran.words_are; jobs = ran.jobs; planned = ran.planned; holds = λ u. nothing_fails u ending answered }

@@ -1,10 +1,31 @@
 -- What valid input comes to: where the files of `check` or `tables` are told, or the word of `decode` is one of octets, and no count rose, the
--- whole text is written with status 0, or there was no memory.
-use Rattle.std.specs.Prelude.{ℕ, ◌≡◌, ◌⊎◌, true, List, take, Option, Some, None}
+-- whole text is written with status 0, or there was no memory. So it is with `sim` and `big`: a run is begun, and the whole text of its report, or of its sums,
+-- is written with its status. And where nothing disturbs a run of `sim`, all is served, and the status is 0 or 1.
+use Rattle.std.specs.Prelude.{ℕ, ◌≡◌, ◌<◌, ◌⊎◌, true, List, take, Option, Some, None}
+use Rattle.std.specs.List.{AllByRecursion}
+use Rattle.bus_sim.specs.Ended.{IsAtEnd}
+use Rattle.bus_sim.specs.RunNow.{RunNow, start}
+use Rattle.call_words.specs.declared.job_word.JobWord.{JobWord}
 use Rattle.call_words.specs.declared.status.Status.{Status}
 use Rattle.call_words.specs.declared.status.Status.TheVariants as status
 use Rattle.knx_model.specs.Outside.{FileContent, FilesNow, SinkNow, Untold, Absent, Holds, Rose, Wrote}
+use Rattle.line_model.specs.Faults.{datagrams_taken, flood}
+use Rattle.line_model.specs.Lines.{script_of}
+use Rattle.line_model.specs.Record.{record_of}
+use Rattle.line_model.specs.StartOf.{is_on_bus}
+use Rattle.line_model.specs.Undisturbed as line
+use Rattle.report_text.specs.LineStatus.{line_status}
+use Rattle.knx_top.specs.Ending.{end_text}
+use Rattle.knx_top.specs.Headline.{OfItsJobs}
+use Rattle.knx_top.specs.Jobs.{AreJobs}
+use Rattle.knx_top.specs.Ran.{Commission, Left, log_in}
+use Rattle.knx_top.specs.Undisturbed.{AllServed}
 use Rattle.knx_top.specs.commands.Project.{ProjectWords, project_tests}
+use Rattle.knx_top.specs.commands.Sim.{IsReported, SimWords, sim_tests}
+use Rattle.knx_top.specs.declared.commands.sim.SimTexts.{SimTexts}
+use Rattle.knx_top.specs.declared.ending.End.{End}
+use Rattle.knx_top.specs.declared.ending.End.TheVariants as ends
+use Rattle.knx_top.specs.declared.ending.Reported.{Reported}
 use Rattle.knx_top.specs.Input.{limit, goes_on, first_some}
 use Rattle.knx_top.specs.declared.project.ProjectTexts.{ProjectTexts}
 use Rattle.knx_top.specs.declared.input.Reading.{Reading}
@@ -36,3 +57,55 @@ pub record NoneRose (files files' : FilesNow) (out out' : SinkNow) : Type 0 wher
 -- a whole text of the kind was written and the status is 0, or there was no memory
 abbrev pub IsToldWhole : (List ℕ → Type 0) → SinkNow → SinkNow → Status → Type 0
 IsToldWhole IsText out out' ending = (ending ≡ status.NoMemory tt) ⊎ ((ending ≡ status.Done) × ((text : List ℕ) × (IsText text × Wrote text out.taken out'.taken)))
+
+-- ---- a run of `sim` or `big`
+
+abbrev pub sim_texts_told : (List ℕ → FileContent) → SimWords → SimTexts
+sim_texts_told file words = record {
+  catalogue = named_told file words.options.catalogue;
+  new = reading_told (file words.new);
+  old = reading_told (file words.old);
+  script = reading_told (file words.script);
+}
+
+-- the files that the words of `sim` name are there, and no test fails
+pub record IsValidRun (file : List ℕ → FileContent) (words : SimWords) : Type 0 where
+  pub catalogue : goes_on (named_told file words.options.catalogue) ≡ true
+  pub new : goes_on (reading_told (file words.new)) ≡ true
+  pub old : goes_on (reading_told (file words.old)) ≡ true
+  pub script : goes_on (reading_told (file words.script)) ≡ true
+  pub passes : first_some (sim_tests words (sim_texts_told file words)) ≡ None
+
+-- what was asked for was run, and what is shown of the run was written whole, with its status
+pub record IsReportedWhole (shown : Reported → End) (c : Commission) (after : Left) (out out' : SinkNow) (ending : Status) : Type 0 where
+  pub told : Reported
+  pub is : after.report ≡ Some told.report
+  pub reported : IsReported c after.line.run told
+  pub written : Wrote (end_text (shown told)) out.taken out'.taken
+  pub status_is : ending ≡ line_status told.report
+
+-- or there was no memory
+abbrev pub IsRunTold : (Reported → End) → Commission → Left → SinkNow → SinkNow → Status → Type 0
+IsRunTold shown c after out out' ending = (ending ≡ status.NoMemory tt) ⊎ IsReportedWhole shown c after out out' ending
+
+-- ---- a run of `sim` that nothing disturbs
+
+-- no line of the script disturbs, and the device of each job is on the line
+pub record NothingDisturbs (c : Commission) : Type 0 where
+  pub says : line.IsUndisturbed (script_of c.script)
+  pub devices : (jobs : List JobWord) → AreJobs c.options.jobs c.project jobs → AllByRecursion (λ (job : JobWord). is_on_bus c.project c.before job.device.raw ≡ true) jobs
+
+-- fewer datagrams came than those at which it is given up, and it was over before the last time of 64 bits
+pub record IsWithinBounds (r : RunNow) : Type 0 where
+  pub unflooded : datagrams_taken (record_of (start r) r.events) < flood
+  pub early : ¬ IsAtEnd r
+
+-- the whole report was written, all was served, and the status is 0, or 1 where a check was refused
+pub record IsServedWhole (c : Commission) (after : Left) (out out' : SinkNow) (ending : Status) : Type 0 where
+  pub whole : IsReportedWhole (λ told. ends.Reports told) c after out out' ending
+  pub served : OfItsJobs c (λ jobs. AllServed jobs c.turns (start after.line.run) (log_in whole.told.report))
+  pub passes : (ending ≡ status.Done) ⊎ (ending ≡ status.SomeFailed)
+
+-- or there was no memory
+abbrev pub IsRunServed : Commission → Left → SinkNow → SinkNow → Status → Type 0
+IsRunServed c after out out' ending = (ending ≡ status.NoMemory tt) ⊎ IsServedWhole c after out out' ending

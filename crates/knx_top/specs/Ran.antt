@@ -27,7 +27,8 @@ use Rattle.hub_core.specs.Thorough.{IsThorough}
 use Rattle.call_words.specs.declared.job_word.JobWord.{JobWord}
 use Rattle.line_model.specs.Haste.{LosesNoTimes}
 use Rattle.line_model.specs.Leaves.{LeavesRightly}
-use Rattle.line_model.specs.declared.fault.HubFault.TheVariants.{LinkFailed}
+use Rattle.line_model.specs.declared.fault.HubFault.TheVariants.{GatewayRefused, LinkFailed}
+use Rattle.line_model.specs.declared.fault.Try.{Try}
 use Rattle.line_model.specs.declared.log.LogEntry.{LogEntry}
 use Rattle.line_model.specs.OldStoppedOrNew.{MeansWhereDone, OldStoppedOrNew, RunsMeaning}
 use Rattle.line_model.specs.declared.log.Report.{Report}
@@ -78,12 +79,19 @@ pub record KeepsPromises (c : Commission) (jobs : List Job) (r : RunNow) (log : 
 abbrev pub log_in : Report → List LogEntry
 log_in report = reverse report.log
 
+-- refused connects are told of three tries
+abbrev pub HasThreeTries : Option HubFault → Type 0
+HasThreeTries fault = (tries : List Try) → fault ≡ Some (GatewayRefused tries) → length tries ≡ 3
+
 pub record IsTold (c : Commission) (jobs : List Job) (r : RunNow) (report : Report) : Type 0 where
   pub disciplined : IsDisciplined jobs c.turns (length r.events) (placed (start r) r.events) (log_in report)
   pub thorough : IsThorough jobs (placed (start r) r.events) (log_in report)
   pub hastens : LosesNoTimes jobs c.turns (log_in report) (placed (start r) r.events)
   pub leaves : LeavesRightly jobs c.turns (log_in report) (placed (start r) r.events)
   pub fault : FaultRight jobs (log_in report) (record_of (start r) r.events) report.fault
+  pub tries : HasThreeTries report.fault
+  -- the link failed only at the last time of 64 bits
+  pub last : report.fault ≡ Some LinkFailed → IsAtEnd r
   pub ended : report.fault ≡ None → AllOver jobs (log_in report)
   pub sent : report.fault ≡ None → ¬ TurnUnfinished c.turns (log_in report)
   -- each job that was taken was the first that was free

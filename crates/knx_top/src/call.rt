@@ -24,7 +24,10 @@ use crate::commands::{Command, asked, big, check, decode, download, find, gatewa
 use crate::ending::{End, tell, tell_end};
 use bus_sim::SimBus;
 use call_words::Status;
-use calm_law::{each_check_is_exact, nothing_fails_on_a_calm_line, undisturbing_scripts_are_calm};
+use calm_law::{
+    each_check_is_exact, nothing_fails_on_a_calm_line, the_gateway_tells_its_own_address,
+    undisturbing_scripts_are_calm,
+};
 use knx_model::{Files, Sink};
 use line_model::{Dialer, Gate, Report};
 use report_text::USAGE;
@@ -131,9 +134,10 @@ pub fn knx<R: Threads + Wait + Sync, F: Files, K: Sink, D: Dialer, G: Gate + Syn
     ensures thorough { HasRunOf EndsThoroughly (map string_bytes words.now) (F.now files.old) sim.old (record { line = sim.new; report = last.new }) }
     // it loses no time
     ensures hastens { HasRunOf HasLostNoTime (map string_bytes words.now) (F.now files.old) sim.old (record { line = sim.new; report = last.new }) }
-    // where no line of the script disturbs, and the jobs' devices are on the line, nothing fails: unless the run breaks off each load is told done, each check
-    // done exactly where an earlier job loads its device or its device began with the new image, and each group telegram sent
-    ensures undisturbed { HasRunOf EndsUndisturbed (map string_bytes words.now) (F.now files.old) sim.old (record { line = sim.new; report = last.new }) }
+    // where no line of the script disturbs, and the jobs' devices are on the line, nothing fails, and the run isn't broken off but for want of memory, by a flood
+    // of datagrams, or at the last time of 64 bits: each load is told done, each check done exactly where an earlier job loads its device or its device began with
+    // the new image, and each group telegram sent; and then the status is 0 or 1, unless there was no memory for the text or it couldn't be written
+    ensures undisturbed { HasRunOf (EndsUndisturbed result) (map string_bytes words.now) (F.now files.old) sim.old (record { line = sim.new; report = last.new }) }
     // it asks the gateway to end the open channel only when all jobs are over: then once, after the listening
     ensures leaves { HasRunOf LeavesItsChannel (map string_bytes words.now) (F.now files.old) sim.old (record { line = sim.new; report = last.new }) }
     // a run that breaks off has its cause in the record, want of memory and a failed link aside; else there is none in the end, every job has its end
@@ -158,6 +162,7 @@ pub fn knx<R: Threads + Wait + Sync, F: Files, K: Sink, D: Dialer, G: Gate + Syn
     undisturbing_scripts_are_calm();
     nothing_fails_on_a_calm_line();
     each_check_is_exact();
+    the_gateway_tells_its_own_address();
     *last = None;
     answer(rt, alloc, words, files, out, sim, dial, gate, last)
 }

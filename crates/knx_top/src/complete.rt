@@ -2,19 +2,48 @@
 
 ghost use Rattle.std.specs.Prelude.{◌≡◌, ℕ, List, Some};
 ghost use Rattle.frame_text.specs.FrameText.{IsFrameText, hex_word};
+ghost use Rattle.bus_sim.specs.Loaded.{BusNow};
 ghost use Rattle.call_words.specs.declared.status.Status.{Status};
+ghost use Rattle.knx_model.specs.Counts.{counts_of};
 ghost use Rattle.knx_model.specs.Outside.{FilesNow, Rose, SinkNow};
-ghost use Rattle.knx_top.specs.Complete.{IsToldWhole, IsValid, NoneRose, texts_told};
+ghost use Rattle.knx_top.specs.Complete.{IsRunServed, IsRunTold, IsToldWhole, IsValid, IsValidRun, IsWithinBounds, NoneRose, NothingDisturbs, sim_texts_told, texts_told};
 ghost use Rattle.knx_top.specs.Ending.{Replies};
+ghost use Rattle.knx_top.specs.Ran.{Left};
+ghost use Rattle.knx_top.specs.declared.ending.End.TheVariants.{Reports, Sums};
+ghost use Rattle.knx_top.specs.commands.Big.{BigWords, RunsMade, commission_made, made};
 ghost use Rattle.knx_top.specs.commands.Check.{IsCountsText};
 ghost use Rattle.knx_top.specs.commands.Decode.{TellsOfFrame};
 ghost use Rattle.knx_top.specs.commands.Project.{ProjectWords, TellsOfProject, project_told};
+ghost use Rattle.knx_top.specs.commands.Sim.{RunsScript, SimWords, commission_told};
 ghost use Rattle.knx_top.specs.commands.Tables.{IsTablesText};
 
+use calm_law::{
+    each_check_is_exact, nothing_fails_on_a_calm_line, the_gateway_tells_its_own_address,
+    undisturbing_scripts_are_calm,
+};
+
 /// Where the files of `check` or `tables` are told, no test fails and no count rose, what the clauses of `knx` say comes to this: the
-/// whole text is written with status 0, or there was no memory. So it is with `decode`, where the word is one of octets.
+/// whole text is written with status 0, or there was no memory. So it is with `decode`, where the word is one of octets; and with `sim`
+/// and `big`: what is asked for is run, and the whole report, or its sums, is written with its status, or there was no memory.
 pub fn valid_input_is_told()
     ensures check { (words : ProjectWords) (files files' : FilesNow) (out out' : SinkNow) (ending : Status) → IsValid files.file words → NoneRose files files' out out' → TellsOfProject IsCountsText words files files' (Replies out out' ending) → IsToldWhole (IsCountsText (project_told (texts_told files.file words))) out out' ending }
     ensures tables { (words : ProjectWords) (files files' : FilesNow) (out out' : SinkNow) (ending : Status) → IsValid files.file words → NoneRose files files' out out' → TellsOfProject IsTablesText words files files' (Replies out out' ending) → IsToldWhole (IsTablesText (project_told (texts_told files.file words))) out out' ending }
     ensures decode { (word octets : List ℕ) (out out' : SinkNow) (ending : Status) → hex_word word ≡ Some octets → ¬ Rose out.faults out'.faults → TellsOfFrame word (Replies out out' ending) → IsToldWhole (IsFrameText octets) out out' ending }
+    ensures sim { (words : SimWords) (files files' : FilesNow) (before : BusNow) (after : Left) (out out' : SinkNow) (ending : Status) → IsValidRun files.file words → NoneRose files files' out out' → RunsScript words files files' before after (Replies out out' ending)
+        → IsRunTold (λ told. Reports told) (commission_told words (sim_texts_told files.file words)) after out out' ending }
+    ensures big { (words : BigWords) (before : BusNow) (after : Left) (out out' : SinkNow) (ending : Status) → ¬ Rose out.faults out'.faults → RunsMade words before after (Replies out out' ending)
+        → IsRunTold (λ told. Sums told (counts_of (made words))) (commission_made words) after out out' ending }
 {}
+
+/// Where besides no line of the script of `sim` disturbs, the device of each job is on the line, and the run is neither flooded nor as long as 64 bits can
+/// tell, all is served: each load is told done, each check done or refused as its device is, and each group telegram sent; the whole report is written, and the
+/// status is 0 or 1; or there was no memory.
+pub fn valid_input_is_served()
+    ensures { (words : SimWords) (files files' : FilesNow) (before : BusNow) (after : Left) (out out' : SinkNow) (ending : Status) → IsValidRun files.file words → NothingDisturbs (commission_told words (sim_texts_told files.file words)) → NoneRose files files' out out' → IsWithinBounds after.line.run
+        → RunsScript words files files' before after (Replies out out' ending) → IsRunServed (commission_told words (sim_texts_told files.file words)) after out out' ending }
+{
+    undisturbing_scripts_are_calm();
+    nothing_fails_on_a_calm_line();
+    each_check_is_exact();
+    the_gateway_tells_its_own_address();
+}

@@ -20,6 +20,6 @@ pub use bus_sim::SimBus;
 pub use call::knx;
 pub use call_words::Status;
 pub use commands::commands_spelled;
-pub use complete::valid_input_is_told;
+pub use complete::{valid_input_is_served, valid_input_is_told};
 pub use line_model::Report;
 pub use report_text::NO_MEMORY;

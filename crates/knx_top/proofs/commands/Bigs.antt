@@ -49,7 +49,7 @@ stops_wanting words why line sound h = (only_memory why (λ other. one_answer (j
 
 -- ---- the whole of it
 
-report_summed : (counts : Counts) (end : End) → report_in (summed counts end) ≡ report_in end
+pub report_summed : (counts : Counts) (end : End) → report_in (summed counts end) ≡ report_in end
 report_summed counts (ends.Stops told) = refl
 report_summed counts (ends.Tells text) = refl
 report_summed counts ends.NotOpened = refl

@@ -47,7 +47,7 @@ pub returns-in-Ok-clause-hastens : goal.returns-in-Ok-clause-hastens
 returns-in-Ok-clause-hastens g c = rw (c.in-Ok.is, ← c.as_slice.ensures.value) c.knx.ensures.hastens
 
 pub returns-in-Ok-clause-undisturbed : goal.returns-in-Ok-clause-undisturbed
-returns-in-Ok-clause-undisturbed g c = rw (c.in-Ok.is, ← c.as_slice.ensures.value) c.knx.ensures.undisturbed
+returns-in-Ok-clause-undisturbed g c = rw (c.in-Ok.is, ← c.as_slice.ensures.value, told c.knx.result c.number.result c.number.ensures) c.knx.ensures.undisturbed
 
 pub returns-in-Ok-clause-leaves : goal.returns-in-Ok-clause-leaves
 returns-in-Ok-clause-leaves g c = rw (c.in-Ok.is, ← c.as_slice.ensures.value) c.knx.ensures.leaves

@@ -1,7 +1,8 @@
 use Rattle.knx_top.specs.Headline.{BeganRightly, HasOldStoppedOrNew, HasTelegramsRight, RunsWhereDone, ActsOnce, IsToldRightly, EndsThoroughly, HasLostNoTime, LeavesItsChannel, HasFaultRight, EndsEveryJob, ClosesToItsEnd, IsOfItsWorkers}
-use Rattle.knx_top.proofs.Calls.{usage_of, check_of, tables_of, decode_of, sim_of, big_of, link_of, download_of, gateway_of, find_of, line_of, no_run_of, faults_in, ran_of}
+use Rattle.knx_top.proofs.Calls.{usage_of, check_of, tables_of, decode_of, sim_of, big_of, link_of, download_of, gateway_of, find_of, line_of, no_run_of, faults_in, ran_of, ran_told_of}
 use Rattle.knx_top.proofs.Promised as promised
 use Rattle.knx_top.proofs.Undisturbed.{Laws, ends_undisturbed}
+use Rattle.knx_top.proofs.Statuses.{AnswersWith, answers_with}
 use Rattle.knx_top.specs.Undisturbed.{EndsUndisturbed}
 use Rattle.knx_top.proofs.call.knx.Goals as goal
 
@@ -75,9 +76,12 @@ returns-clause-undisturbed g c =
       prompt = c.nothing_fails_on_a_calm_line.ensures.prompt;
       refuses = c.nothing_fails_on_a_calm_line.ensures.refuses;
       ended = c.nothing_fails_on_a_calm_line.ensures.ended;
+      reached = c.nothing_fails_on_a_calm_line.ensures.reached;
+      told = c.the_gateway_tells_its_own_address.ensures;
       checks = c.each_check_is_exact.ensures;
     } in
-    ran_of EndsUndisturbed (ends_undisturbed laws) _ _ _ _ c.answer.ensures.does
+    ran_told_of (EndsUndisturbed c.answer.result) (AnswersWith c.answer.result) (λ commission r report jobs ran answered. ends_undisturbed laws commission r report jobs ran c.answer.result answered) _ _ _ _
+    (answers_with (g.K.Sink.now c.args.out.now) (g.K.Sink.now c.answer.new.out) c.answer.result) c.answer.ensures.does
 
 pub returns-clause-leaves : goal.returns-clause-leaves
 returns-clause-leaves g c = ran_of LeavesItsChannel promised.leaves_its_channel _ _ _ _ c.answer.ensures.does

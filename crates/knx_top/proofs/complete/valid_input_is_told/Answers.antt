@@ -1,4 +1,5 @@
 use Rattle.knx_top.proofs.Completeness.{complete, decoded}
+use Rattle.knx_top.proofs.RunsTold.{made_told, script_told}
 use Rattle.knx_top.specs.commands.Check.{IsCountsText}
 use Rattle.knx_top.specs.commands.Tables.{IsTablesText}
 use Rattle.knx_top.proofs.complete.valid_input_is_told.Goals as goal
@@ -11,3 +12,9 @@ returns-clause-tables c = complete IsTablesText
 
 pub returns-clause-decode : goal.returns-clause-decode
 returns-clause-decode c = decoded
+
+pub returns-clause-sim : goal.returns-clause-sim
+returns-clause-sim c = λ words files files' before after out out' ending valid still t. script_told words files files' before after out out' ending valid still t
+
+pub returns-clause-big : goal.returns-clause-big
+returns-clause-big c = made_told

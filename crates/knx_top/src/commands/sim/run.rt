@@ -12,7 +12,7 @@ ghost use Rattle.knx_top.specs.Begun.{IsOrder};
 ghost use Rattle.knx_top.specs.Ending.{report_in};
 ghost use Rattle.knx_top.specs.Jobs.{seen_job};
 ghost use Rattle.knx_top.specs.Names.{options_of};
-ghost use Rattle.knx_top.specs.Ran.{Commission, FaultsOfLine};
+ghost use Rattle.knx_top.specs.Ran.{Commission, FaultsOfLine, HasThreeTries};
 ghost use Rattle.knx_top.specs.commands.Sim.{Comes, Runs, ShowsRun, judged, sim_words_of};
 
 use crate::commands::sim::judge::{Order, judge};
@@ -40,7 +40,8 @@ fn end_of_run(
     log: bool,
 ) -> End
     requires { All (λ (d : Address × Option Compiled). IsSome ((world line.now.run).devices d.0.raw)) devices.now }
-    ensures { ShowsRun line.now.run report jobs turns devices.now log result }
+    ensures shows { ShowsRun line.now.run report jobs turns devices.now log result }
+    ensures tries { HasThreeTries report.fault }
 {
     match all_shown(alloc, line, devices) {
         Ok(devices) => End::Reports(Reported {
