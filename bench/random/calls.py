@@ -8,7 +8,7 @@ OFFICE = (EXAMPLES / "office.toml").read_bytes()
 PARTS = (1, 2, 5, 6, 7, 20, 254)
 LETTERS = "CRWTUI"
 # the names of the files of a call
-FILES = {"new", "old", "script", "cat"}
+FILES = {"new", "old", "script", "cat", "units"}
 
 
 # ---- catalogues
@@ -157,7 +157,7 @@ def job_words(r, devices):
     return [f"{r.choice(('load', 'load', 'check'))}:{r.choice(devices)}" for _ in range(r.choice((1, 1, 2, 3, 6)))]
 
 
-ODD_WORDS = ("log", "log=1", "catalogue=", "catalogue=cat", "load:", "load:1.1.256", "check:1.1", "workers=2", "workers=9", "workers=0", "Load:1.1.5", "sim", "",
+ODD_WORDS = ("log", "log=1", "quiet", "quiet=1", "catalogue=", "catalogue=cat", "load:", "load:1.1.256", "check:1.1", "workers=2", "workers=9", "workers=0", "Load:1.1.5", "sim", "",
              "check:01.1.005", "\udcff")
 
 
@@ -170,7 +170,7 @@ def sim(r):
     devices = sorted({say.split()[1] for say in new + old if say.startswith("device") and say.split()[1].startswith(line + ".")})
     words = job_words(r, sorted({say.split()[1] for say in new if say.startswith("device")}))
     words += [f"workers={r.choice((1, 1, 4, 8))}"] * (r.random() < 0.6)
-    words += ["log"] * (r.random() < 0.4) + ["catalogue=cat"] * (bool(models) or r.random() < 0.1)
+    words += ["log"] * (r.random() < 0.4) + ["quiet"] * (r.random() < 0.1) + ["catalogue=cat"] * (bool(models) or r.random() < 0.1)
     words += [r.choice(ODD_WORDS)] * (r.random() < 0.04)
     r.shuffle(words)
     groups = [say.split()[1] for say in new if say.startswith("ga ")]
@@ -228,6 +228,19 @@ def find(r):
     return ["find", r.choice(GATEWAYS if r.random() < 0.1 else GATEWAYS[:5]), *["describe"] * (r.random() < 0.5), *["log"] * (r.random() < 0.05)], {}
 
 
+def assign(r):
+    wanted = f"1.{r.randrange(2)}.{r.choice((1, 2, 7, 20, 254, 0, 255)) if r.random() < 0.1 else r.choice((1, 2, 7))}"
+    if r.random() < 0.1:
+        return ["assign", r.choice(GATEWAYS), wanted], {}
+    units = [f"unit {r.choice(('15.15.255', '1.0.1', '1.1.2', '1.1.7', wanted))} {r.choice(('prog', 'off', 'off'))}" for _ in range(r.choice((0, 1, 1, 2, 2, 3, 5)))]
+    lost = [f"lose {r.choice(('read', 'answer'))} {r.randint(1, len(units) + 1)} {r.randint(1, 4)}" for _ in range(r.choice((0, 0, 1, 1, 2, 4)))]
+    lines = [*units, *lost]
+    if r.random() < 0.1:
+        lines.append(r.choice(("unit", "unit 1.1.0 off", "unit 1.1.1 on", "lose read 0 1", "lose answer 1", "lose write 1 1", "unit 1.1.256 prog", "# units", "unit 1.1.1 off off")))
+    r.shuffle(lines)
+    return ["assign", "sim", "units", wanted, *["log"] * (r.random() < 0.02)], {"units": "".join(line + "\n" for line in lines).encode()}
+
+
 def big(r):
     count = r.choice(COUNTS if r.random() < 0.3 else COUNTS[:5])
     start = r.choice(STARTS) if r.random() < 0.5 else str(r.getrandbits(64))
@@ -278,7 +291,7 @@ def decode(r):
 
 
 def call(r):
-    words, files = r.choice((sim, sim, sim, sim, sim, sim, told, told, gateway, find, decode, decode, big))(r)
+    words, files = r.choice((sim, sim, sim, sim, sim, sim, told, told, gateway, find, assign, assign, decode, decode, big))(r)
     if files and r.random() < 0.01:
         del files[r.choice(sorted(files))]
     if r.random() < 0.01:

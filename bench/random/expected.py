@@ -3,11 +3,11 @@ said without running it, of its report. run.py asks it of many calls."""
 import collections
 import re
 
-from formats import CatalogueRefused, Project, Refused, group_text, individual, individual_text, models_of, number, script_of
+from formats import CatalogueRefused, Project, Refused, group_text, individual, individual_text, models_of, number, script_of, units_of
 from frames import datagram
 from plan import check_end, load_end
 
-USAGE = "usage: knx check, tables, sim, download, gateway, decode, find or big, with their words\n"
+USAGE = "usage: knx check, tables, sim, download, gateway, decode, find, assign or big, with their words\n"
 SIGN = "(?: (?:nocon|closed|silent|tunnel))"
 OCTETS = "(?:-|(?:[0-9A-F]{2})+)"
 JOB = re.compile(rf"job (\d+) (load|check) (\S+) (done|open|failed{SIGN}{{3}}|refused \d+ got {OCTETS} expected {OCTETS})")
@@ -58,20 +58,22 @@ Options = collections.namedtuple("Options", "catalogue log workers jobs", defaul
 
 def options_of(words, for_sim):
     """The catalogue's name or None, whether the log is asked for, how many downloaders work at once, and the jobs."""
-    names, logs, counts, jobs = [], 0, [], []
+    names, logs, quiets, counts, jobs = [], 0, 0, [], []
     for word in words:
         job = re.fullmatch("(load|check):(.*)", word, re.S)
         if word.startswith("catalogue="):
             names.append(word[10:])
         elif for_sim and word == "log":
             logs += 1
+        elif for_sim and word == "quiet":
+            quiets += 1
         elif for_sim and word.startswith("workers=") and 1 <= (number(word[8:]) or 0) <= 8:
             counts.append(number(word[8:]))
         elif for_sim and job and individual(job[2]):
             jobs.append((job[1], individual(job[2])))
         else:
             raise Stop(2, USAGE)
-    if len(names) > 1 or logs > 1 or len(counts) > 1 or len(jobs) > 1024:
+    if len(names) > 1 or logs > 1 or quiets > 1 or len(counts) > 1 or len(jobs) > 1024:
         raise Stop(2, USAGE)
     return Options((names or [None])[0], logs == 1, (counts or [4])[0], jobs)
 
@@ -103,6 +105,57 @@ def served(words, files):
     raise Stop(*DIALS)
 
 
+class Bus:
+    """The simulated bus of units: what each broadcast does, and who answers it."""
+
+    def __init__(self, units, losses):
+        self.units, self.losses = units, losses
+        self.broadcasts, self.answers = 0, [0] * len(units)
+
+    def those_that_get(self):
+        self.broadcasts += 1
+        return [k for k, (_, prog) in enumerate(self.units) if prog and ("read", k + 1, self.broadcasts) not in self.losses]
+
+    def read(self):
+        heard = []
+        for k in self.those_that_get():
+            self.answers[k] += 1
+            heard += [self.units[k][0]] if ("answer", k + 1, self.answers[k]) not in self.losses else []
+        return heard
+
+    def write(self, address):
+        for k in self.those_that_get():
+            self.units[k][0] = address
+
+
+def given(bus, wanted):
+    """What comes of giving the address on a bus: the status and the line."""
+    heard = bus.read() or bus.read() or bus.read()
+    if not heard:
+        return 15, "no unit"
+    if len(heard) > 1:
+        return 16, f"several {individual_text(heard[0])} {individual_text(heard[1])}"
+    if heard[0] != wanted:
+        if any(address == wanted for address, _ in bus.units):
+            return 17, f"taken {individual_text(wanted)}"
+        bus.write(wanted)
+        if bus.read() != [wanted]:
+            return 18, "unconfirmed"
+    return 0, f"assigned {individual_text(wanted)}"
+
+
+def assigned(words, files):
+    """What `assign` tells; over a gateway, that none is reached."""
+    on_bus = len(words) == 3 and words[0] == "sim"
+    if not (on_bus or len(words) == 2 and is_gateway(words[0])) or individual(words[-1]) is None:
+        raise Stop(2, USAGE)
+    if not on_bus:
+        raise Stop(*DIALS)
+    bus = Bus(*judged("script", units_of, read(files, words[1])))
+    status, line = given(bus, individual(words[2]))
+    raise Stop(status, line + "\n" + "".join(f"unit {k} {individual_text(address)}\n" for k, (address, _) in enumerate(bus.units, 1)))
+
+
 def asked(words, files):
     """What is to be told of words that need no run, or the run."""
     command, rest = words[0] if words else "", words[1:]
@@ -110,6 +163,8 @@ def asked(words, files):
         return "".join(line + "\n" for line in datagram(bytes.fromhex(rest[0])))
     if command == "gateway":
         served(rest, files)
+    if command == "assign":
+        assigned(rest, files)
     if command == "find" and rest and is_gateway(rest[0]) and rest[1:] in ([], ["describe"]):
         raise Stop(*DIALS)
     if command == "big" and are_of_a_line(rest):

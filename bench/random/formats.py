@@ -37,6 +37,15 @@ def individual(word):
     return (numbers[0] << 12 | numbers[1] << 8 | numbers[2]) if numbers and numbers[2] else None
 
 
+def of_unit(word):
+    numbers = numbers_in(word, ".", (15, 15, 255))
+    return (numbers[0] << 12 | numbers[1] << 8 | numbers[2]) if numbers and numbers[2] else None
+
+
+def mode(word):
+    return word if word in ("prog", "off") else None
+
+
 def group(word):
     numbers = numbers_in(word, "/", (31, 7, 255))
     return (numbers[0] << 11 | numbers[1] << 8 | numbers[2]) or None if numbers else None
@@ -75,7 +84,8 @@ def group_value(word):
 OBJECT = one_of(*range(1, 256))
 # how a word in a place is read, and the refusal of one that can't be
 PLACES = {"individual": (individual, 4), "group": (group, 4), "object": (OBJECT, 5), "size": (one_of(*SIZES), 5), "value": (number, 5),
-          "count": (positive, 5), "status": (status, 5), "group-value": (group_value, 5), "name": (name, 6), "flags": (flags, 6)}
+          "count": (positive, 5), "status": (status, 5), "group-value": (group_value, 5), "name": (name, 6), "flags": (flags, 6),
+          "of-unit": (of_unit, 4), "mode": (mode, 3)}
 STATEMENTS = {"project": "name", "ga": "group name", "device": "individual name", "object": "individual object size flags",
               "link": "individual object group", "flags": "individual object flags", "param": "individual name value"}
 SCRIPT_LINES = {"lose": {"up": "count", "down": "count", "to": "individual count", "from": "individual count"},
@@ -83,6 +93,7 @@ SCRIPT_LINES = {"lose": {"up": "count", "down": "count", "to": "individual count
                 "then": {"group": "group group-value"}, "cut": "individual count value", "worn": "individual count",
                 "close": "individual count", "refuse": "count status", "off": "individual", "group": "group group-value",
                 "standard": "individual"}
+UNIT_LINES = {"unit": "of-unit mode", "lose": {"read": "count count", "answer": "count count"}}
 
 
 def lines_of(octets, most=None):
@@ -132,6 +143,20 @@ def read_line(line, words, table):
 
 def statements_of(octets):
     return [read_line(line, words, STATEMENTS) for line, words in lines_of(octets)]
+
+
+def units_of(octets):
+    """The units, each with its address and whether it is in programming mode, and what is lost."""
+    units, losses = [], set()
+    for line, words in lines_of(octets):
+        _, word, values = read_line(line, words, UNIT_LINES)
+        if word == "unit" and len(units) == 255:
+            raise Refused(line, 19, 255)
+        if word == "unit":
+            units.append([values[0], values[1] == "prog"])
+        else:
+            losses.add((word[5:], *values))
+    return units, losses
 
 
 def script_of(octets):

@@ -13,7 +13,7 @@ from unittest import mock
 from called import EXAMPLES, TOOLS, ToolTest
 import manual
 
-COMMANDS = ["check", "tables", "sim", "download", "gateway", "find", "big", "decode"]
+COMMANDS = ["check", "tables", "sim", "download", "gateway", "find", "assign", "big", "decode"]
 
 # What bash's own completions give, in a few lines.
 OF_BASH = """
@@ -32,7 +32,7 @@ class Manual(ToolTest):
         self.assertEqual(re.findall(r"knx (\w+)", parts["SYNOPSIS"]), COMMANDS)
         self.assertEqual(re.findall(r"^\\fBknx (\w+)", parts["COMMANDS"], re.MULTILINE), COMMANDS)
         found = {number for first in re.findall(r"^\.TP 7\n(\d[\d, ]*)$", parts["EXIT STATUS"], re.MULTILINE) for number in re.findall(r"\d+", first)}
-        self.assertEqual(found, {str(number) for number in range(15)})
+        self.assertEqual(found, {str(number) for number in range(20)})
 
     def test_no_text_is_a_request(self):
         requests = {line.split()[0] for line in manual.man_page("0~1", "2026-01-01").splitlines() if line.startswith((".", "'"))}
@@ -54,7 +54,7 @@ class Manual(ToolTest):
             (["d"], ["download", "decode"]),
             (["sim", ""], ["FILE"]),
             (["sim", floor, "b", "c"], ["FILE"]),
-            (["sim", floor, "b", "c", ""], ["catalogue=", "log", "workers=", "load:", "check:"]),
+            (["sim", floor, "b", "c", ""], ["catalogue=", "log", "quiet", "workers=", "load:", "check:"]),
             (["sim", floor, "b", "c", "log", "catalogue=x"], ["FILE"]),
             (["sim", floor, "b", "c", "load:1"], ["load:1.1.5", "load:1.1.6", "load:1.1.7"]),
             (["download", "1"], []),

@@ -11,22 +11,23 @@ use Rattle.line_model.specs.Reading.{ldata_in, RequestFrame, request_in}
 use Rattle.line_model.specs.Record.{Item, Put, Renewed, Got, Quiet, Entry, entry, Placed, entries, is_got, got_in}
 use Rattle.line_model.specs.LinkStory.{Story, places_in, newest_time}
 use Rattle.line_model.specs.Asks.{HasPlace, moment_of}
-use Rattle.line_model.specs.ChannelLost.{is_lost, delivers, expected}
-use Rattle.line_model.specs.ClientView.{ClientChannel, Fresh, Sought, RefusedBy, Unanswered, Open, Lost, Deed, Puts, Takes, Loses, Nothing, channel, deed, deed_of, deed_in}
+use Rattle.line_model.specs.ChannelLost.{is_lost, last_frame, delivers, expected}
+use Rattle.line_model.specs.ClientView.{ClientChannel, Fresh, Sought, RefusedBy, Unanswered, Open, Lost, Deed, Puts, Takes, Loses, Nothing, as_counted, channel, deed, deed_of, deed_in}
 use Rattle.line_model.specs.Faults.{datagrams_taken, flood}
 use Rattle.line_model.specs.Moments.{Moment, moments}
+use Rattle.tunnel_link.proofs.PutLast.{counted_puts}
 use Rattle.tunnel_link.specs.Adds.{Growing, PutsIt, PutsOne, moments_on}
 use Rattle.tunnel_link.specs.Goes.{GoesOn}
 use Rattle.tunnel_link.specs.Rights.{WhereTold}
 use Rattle.address_world.specs.declared.asked.Asked.{Asked}
-use Rattle.address_world.specs.declared.asked.Asked.TheVariants.{Read, Connect, Write}
+use Rattle.address_world.specs.declared.asked.Asked.TheVariants.{Read, Connect, Disconnect, Write}
 use Rattle.address_world.specs.Keeps.{frame_of}
 use Rattle.address_commission.specs.declared.assigned.AssignFault.{AssignFault}
 use Rattle.address_commission.specs.declared.ear.Ear.{Ear}
 use Rattle.address_commission.specs.declared.ear.Heard.{Heard}
 use Rattle.address_commission.specs.declared.ear.Heard.TheVariants as ear
 use Rattle.address_commission.specs.Rounds.{Round, begun, rounds, is_read, answers, quiet_since, has_lost}
-use Rattle.address_commission.specs.Talk.{AsksFor, MayAsk, ReadsFirst, Connects, Writes, ReadsLast, AsksRightly, DoesRightly, TalksRightly, HeardOut, listening_wait}
+use Rattle.address_commission.specs.Talk.{AsksFor, MayAsk, ReadsFirst, Connects, Disconnects, Writes, ReadsLast, AsksRightly, DoesRightly, TalksRightly, HeardOut, listening_wait}
 use Rattle.address_commission.specs.Going.{ComesFrom, Going, GoOn, SameRounds, OneMore, AsksOne}
 use Rattle.address_commission.specs.Listening.{HeardSo, HearsRounds, Stands, Listens, HasWaited, IsTurnTo, IsOut, quiet_after}
 use Rattle.address_commission.specs.Ends.{FailsSo, ToldAs, CausedBy, AsksGoes, TalkFails, TalkGoes}
@@ -42,6 +43,9 @@ read_is wanted = refl
 connect_isnt : (wanted : IndAddr) → is_read (Some (frame_of wanted Connect)) ≡ false
 connect_isnt wanted = refl
 
+disconnect_isnt : (wanted : IndAddr) → is_read (Some (frame_of wanted Disconnect)) ≡ false
+disconnect_isnt wanted = refl
+
 write_isnt : (wanted : IndAddr) → is_read (Some (frame_of wanted Write)) ≡ false
 unfolding service_in tpdu_in apdu_in
 write_isnt wanted = refl
@@ -49,6 +53,7 @@ write_isnt wanted = refl
 pub other_isnt : (wanted : IndAddr) (asked : Asked) → (asked ≡ Read → ⊥) → is_read (Some (frame_of wanted asked)) ≡ false
 other_isnt wanted Read h = absurd (h refl)
 other_isnt wanted Connect h = connect_isnt wanted
+other_isnt wanted Disconnect h = disconnect_isnt wanted
 other_isnt wanted Write h = write_isnt wanted
 
 -- ---- what is put isn't got
@@ -70,8 +75,8 @@ got_not_put (RefusedBy status) octets now cemi e = cc
 got_not_put Unanswered octets now cemi e = cc
 got_not_put (Lost c) octets now cemi e = cc
 got_not_put (Open c l) octets now cemi e =
-    unless_lost (is_lost c l (entry (Got octets) now)) (deed_in c l (entry (Got octets) now)) cemi
-    (takes_not (delivers c (expected c l) (request_in (got_in (Got octets)))) (request_in (got_in (Got octets))) cemi) e
+    unless_lost (is_lost c l (entry (Got octets) now)) (as_counted (last_frame c l) (deed_in c l (entry (Got octets) now))) cemi
+    (λ d. takes_not (delivers c (expected c l) (request_in (got_in (Got octets)))) (request_in (got_in (Got octets))) cemi (counted_puts (last_frame c l) (deed_in c l (entry (Got octets) now)) cemi d)) e
 
 put_not_got : (what : Item) (ch : ClientChannel) (now : ℕ) (cemi : List ℕ) → deed ch (entry what now) ≡ Puts cemi → is_got what ≡ false
 put_not_got (Put octets) ch now cemi e = refl
@@ -116,21 +121,22 @@ heard_read wanted e f cemi rs b is = (rw (is, read_is wanted, b.read refl) refl,
 heard_before : (wanted : IndAddr) (asked : Asked) (e f : Ear) (cemi : List ℕ) (rs : List Round) → MayAsk wanted rs asked → Before asked e f → ldata_in cemi ≡ Some (frame_of wanted asked) → HearsRounds e rs → HearsRounds f (begun cemi ∷ rs)
 heard_before wanted _ e f cemi rs (ReadsFirst silent few) b is h = heard_read wanted e f cemi rs b is
 heard_before wanted _ e f cemi (r ∷ before) (Connects searches one) b is h = heard_other wanted Connect e f cemi r before b (λ q. cc) is h
-heard_before wanted _ e f cemi (c ∷ r ∷ before) (Writes searches asks ok one) b is h = heard_other wanted Write e f cemi c (r ∷ before) b (λ q. cc) is h
+heard_before wanted _ e f cemi (c ∷ rs) (Disconnects asks) b is h = heard_other wanted Disconnect e f cemi c rs b (λ q. cc) is h
+heard_before wanted _ e f cemi (d ∷ c ∷ r ∷ before) (Writes searches asks ends ok one) b is h = heard_other wanted Write e f cemi d (c ∷ r ∷ before) b (λ q. cc) is h
 heard_before wanted _ e f cemi rs (ReadsLast asks) b is h = heard_read wanted e f cemi rs b is
 
 -- ---- the step
 
 module _ (wanted : IndAddr) (asked : Asked) (e f : Ear) (cemi : List ℕ) (at : ℕ) (is : ldata_in cemi ≡ Some (frame_of wanted asked)) (b : Before asked e f) where
-  right : (old : List Placed) → IsTurnTo wanted asked old → AsksRightly wanted old cemi
-  right old t = record { asked = asked; reads = is; may = t.may; heard_out = t.heard_out }
+  right : (old : List Placed) → IsTurnTo wanted asked old → has_lost (moments old) ≡ false → AsksRightly wanted old cemi
+  right old t kept = record { asked = asked; reads = is; may = t.may; heard_out = t.heard_out; kept = kept }
 
-  put_talks : (old added new : List Placed) → new ≡ added ++ old → PutsIt cemi at old added → IsTurnTo wanted asked old → TalksRightly wanted old → TalksRightly wanted new
-  put_talks old added new grow put t talks = subst (TalksRightly wanted) (sym grow) ((one_put wanted cemi _ old added put refl).talks (right old t) talks)
+  put_talks : (old added new : List Placed) → new ≡ added ++ old → PutsIt cemi at old added → IsTurnTo wanted asked old → Stands wanted old → TalksRightly wanted new
+  put_talks old added new grow put t s = subst (TalksRightly wanted) (sym grow) ((one_put wanted cemi _ old added put refl).talks (right old t s.kept) s.rightly)
 
-  none_talks : (old added new : List Placed) → new ≡ added ++ old → (added ≡ []) ⊎ PutsIt cemi at old added → IsTurnTo wanted asked old → TalksRightly wanted old → TalksRightly wanted new
-  none_talks old added new grow (inl none) t talks = subst (TalksRightly wanted) (sym (grow ∙ ap (λ (z : List Placed). z ++ old) none)) talks
-  none_talks old added new grow (inr put) t talks = put_talks old added new grow put t talks
+  none_talks : (old added new : List Placed) → new ≡ added ++ old → (added ≡ []) ⊎ PutsIt cemi at old added → IsTurnTo wanted asked old → Stands wanted old → TalksRightly wanted new
+  none_talks old added new grow (inl none) t s = subst (TalksRightly wanted) (sym (grow ∙ ap (λ (z : List Placed). z ++ old) none)) s.rightly
+  none_talks old added new grow (inr put) t s = put_talks old added new grow put t s
 
   new_rounds : (old added new : List Placed) → moments new ≡ moments_on old added ++ moments old → PutsIt cemi at old added → rounds (moments new) ≡ begun cemi ∷ rounds (moments old)
   new_rounds old added new more put = ap rounds (more ∙ ap (λ (z : List Moment). z ++ moments old) put)
@@ -142,7 +148,7 @@ module _ (wanted : IndAddr) (asked : Asked) (e f : Ear) (cemi : List ℕ) (at : 
       let quiet : quiet_since (entries new) ≡ quiet_since (entries old) = ap (λ (z : List Placed). quiet_since (entries z)) grow ∙ quiet_on added old none in
       record {
         stands = record {
-          rightly = put_talks old added new grow put t l.stands.rightly;
+          rightly = put_talks old added new grow put t l.stands;
           kept = ap has_lost (more ∙ ap (λ (z : List Moment). z ++ moments old) put) ∙ l.stands.kept;
           few = subst (λ (z : ℕ). z < flood) (sym count) l.stands.few;
         };
@@ -172,7 +178,7 @@ module _ (wanted : IndAddr) (asked : Asked) (e f : Ear) (cemi : List ℕ) (at : 
     fails = λ l new p.
         let x = step_of (PutsOne {X = Unit {0}} (Err fault) cemi at) s t new g h p in
         let now = turn x.old x.told in
-        (cause new p, none_talks x.old x.added new x.grow (x.is now.place) now (l x.old x.told).stands.rightly);
+        (cause new p, none_talks x.old x.added new x.grow (x.is now.place) now (l x.old x.told).stands);
   }
 
 -- ---- its wait
@@ -202,6 +208,7 @@ apart wanted asked not e =
 quiet_enough : (wanted : IndAddr) (asked : Asked) (since now : ℕ) → quiet_after asked ≤ now - since → Some (frame_of wanted asked) ≡ Some (frame_of wanted Read) → since + listening_wait ≤ now
 quiet_enough wanted Read since now h e = omega (arith, h)
 quiet_enough wanted Connect since now h e = absurd (apart wanted Connect (λ q. cc) e)
+quiet_enough wanted Disconnect since now h e = absurd (apart wanted Disconnect (λ q. cc) e)
 quiet_enough wanted Write since now h e = absurd (apart wanted Write (λ q. cc) e)
 
 out_by : (wanted : IndAddr) (asked : Asked) (f : Ear) (new : List Placed) (rs before : List Round) → OneMore wanted asked before rs → HearsRounds f rs → f.since ≡ quiet_since (entries new) → HasWaited (quiet_after asked) f new → HeardOut wanted rs (entries new)

@@ -1,11 +1,18 @@
 -- The end of the channel: no request is put.
-use Rattle.std.proofs.Common.{◌≡◌, ℕ, ◌⊎◌, inl, inr, List, [], ◌∷◌, ◌++◌, Bool, true, false, Option, Some, None, Result, Ok, Err, refl, sym, ◌∙◌, ap, subst, append_assoc}
+use Rattle.std.proofs.lemmas.List.{append_cancel_right}
+use Rattle.std.proofs.lemmas.Bool.{ltb-true, ltb-false}
+use Rattle.std.proofs.Math.Dec.{ltb}
+use Rattle.std.proofs.Common.{◌≡◌, ℕ, ◌≤◌, ◌<◌, ◌⊎◌, inl, inr, List, [], ◌∷◌, ◌++◌, Bool, true, false, ◌||◌, Option, Some, None, Result, Ok, Err, refl, sym, ◌∙◌, ap, subst, append_assoc, arith}
 use Rattle.knx_model.specs.declared.address.IndAddr.{IndAddr}
 use Rattle.line_model.specs.declared.fault.HubFault.{HubFault}
+use Rattle.line_model.specs.declared.fault.HubFault.TheVariants as hub
 use Rattle.line_model.specs.Reading.{ldata_in}
-use Rattle.line_model.specs.Record.{Placed}
+use Rattle.knx_model.specs.Outside.{Rose}
+use Rattle.line_model.specs.Asks.{HasPlace}
+use Rattle.line_model.specs.Closing.{asks_to_end, is_open}
+use Rattle.line_model.specs.Record.{Placed, entries}
 use Rattle.line_model.specs.LinkStory.{Story, places_in}
-use Rattle.line_model.specs.ClientView.{Deed, Puts, Takes, Loses, Nothing}
+use Rattle.line_model.specs.ClientView.{ClientChannel, Fresh, Sought, RefusedBy, Unanswered, Open, Lost, Deed, Puts, Takes, Loses, Nothing as DoesNothing, channel}
 use Rattle.line_model.specs.Moments.{Moment, moments}
 use Rattle.line_model.specs.Signs.{Every}
 use Rattle.tunnel_link.specs.declared.acted.Acted.{Acted}
@@ -14,21 +21,31 @@ use Rattle.tunnel_link.specs.declared.came.Loss.{Loss}
 use Rattle.tunnel_link.specs.declared.came.Loss.TheVariants.{Stays, Ended, Told}
 use Rattle.tunnel_link.specs.declared.came.What.{What}
 use Rattle.tunnel_link.specs.declared.came.What.TheVariants as came
-use Rattle.tunnel_link.specs.Adds.{Growing, Acts, Leaves, PollAdds, AllNothing, IsNothing, PutsNone, One, OrLoses, DoesSo, AtMostOne, moments_on}
+use Rattle.tunnel_link.specs.Adds.{Growing, Acts, Leaves, PollAdds, AllNothing, IsNothing, PutsNone, One, OrLoses, DoesSo, AtMostOne, asks_end, moments_on}
+use Rattle.tunnel_link.specs.Alone.{Each, EndsNone, LeavesAlone, Nothing, Once, SendsOnce}
 use Rattle.tunnel_link.specs.Goes.{GoesOn}
+use Rattle.tunnel_link.specs.Rights.{FailsWhere, WhereTold}
+use Rattle.tunnel_link.proofs.Acting.{grows_then}
+use Rattle.tunnel_link.proofs.SeekKept.{grows_as}
+use Rattle.tunnel_link.proofs.Stories.{goes_again}
+use Rattle.address_commission.specs.declared.assigned.Assigned.{Assigned}
+use Rattle.address_commission.specs.declared.assigned.AssignFault.{AssignFault}
+use Rattle.address_commission.specs.declared.assigned.AssignFault.TheVariants as fails
 use Rattle.address_commission.specs.Rounds.{Round, after_deed, rounds}
 use Rattle.address_commission.specs.Talk.{TalksRightly}
 use Rattle.address_commission.specs.Going.{ComesFrom, Going, GoOn, GoesOnFrom, SameRounds}
-use Rattle.address_commission.specs.Ends.{ClosesSo}
+use Rattle.address_commission.specs.Ends.{AnsweredBy, ClosesSo, EndsOnce, EndsSo, FailsBy, FailsSo, Leaves as LeavesAnswered, LeavesOn, ToldAs, fault_of}
+use Rattle.std.specs.Prelude.{IfErr}
+use Rattle.address_commission.proofs.Calls.{told_ok}
 use Rattle.address_commission.proofs.Folds.{nothing_rounds, one_rounds, NotPuts, PutsNo, nothing_puts, one_puts, not_puts, talks_on}
 use Rattle.address_commission.proofs.Heard.{go_same, go_on, go_frame}
-use Rattle.address_commission.proofs.Steps.{Step, step_of}
+use Rattle.address_commission.proofs.Steps.{Step, step_of, told_before, some_is}
 
 go_deed : (d : Deed) (rs : List Round) → NotPuts d → GoOn rs (after_deed d rs)
 go_deed (Puts cemi) rs h = absurd h
 go_deed (Takes cemi) rs h = go_frame (ldata_in cemi) rs
 go_deed Loses rs h = go_same rs
-go_deed Nothing rs h = go_same rs
+go_deed DoesNothing rs h = go_same rs
 
 one_map : {P Q : Moment → Type 0} {l : List Moment} → ((m : Moment) → P m → Q m) → One P l → One Q l
 one_map f o = record { newer = o.newer; m = o.m; older = o.older; all = o.all; is = f o.m o.is; newer_nothing = o.newer_nothing; older_nothing = o.older_nothing }
@@ -109,3 +126,118 @@ closes_on wanted s t u a b new p =
         rightly = λ talks. y.is.rightly (x.is.rightly talks);
       };
     }
+
+-- ---- the channel is asked to end once
+
+alone_ends_none : (old added : List Placed) → Each LeavesAlone old added → Each EndsNone old added
+alone_ends_none old [] h = tt
+alone_ends_none old (p ∷ added) h = (h.0.ends_none, alone_ends_none old added h.1)
+
+pub ends_none_of : (s t : Story) → Growing (Each LeavesAlone) s t → Growing (Each EndsNone) s t
+ends_none_of s t g = grows_as (Each LeavesAlone) (Each EndsNone) s t alone_ends_none g
+
+or_false : (b : Bool) → (b || false) ≡ true → b ≡ true
+or_false true e = e
+or_false false e = e
+
+-- the one entry that was added, where it asks to end the channel
+pub record Request (old added : List Placed) : Type 0 where
+  pub request : Placed
+  pub parts : added ≡ request ∷ []
+  pub asks : asks_to_end request.what ≡ true
+
+request_by : (old added : List Placed) → SendsOnce old added → asks_end added ≡ true → Request old added
+request_by old _ Nothing asks = absurd (let e : false ≡ true = asks in cc)
+request_by old _ (Once p still seeks) asks = record { request = p; parts = refl; asks = or_false (asks_to_end p.what) asks }
+
+open_place : (ch : ClientChannel) → HasPlace ch → is_open ch ≡ true
+open_place Fresh h = absurd h
+open_place (Sought since) h = absurd h
+open_place (RefusedBy status) h = absurd h
+open_place Unanswered h = absurd h
+open_place (Open c l) h = refl
+open_place (Lost c) h = absurd h
+
+-- where it asks, it was asked for by one entry
+pub asked_by : (s t : Story) → Growing (Leaves (Ok true)) s t → Growing SendsOnce s t → Growing Request s t
+asked_by s t g h old p =
+    let x = g old p in
+    let y = h old p in
+    let new : x.new ≡ y.new = some_is x.new y.new (sym x.told ∙ y.told) in
+    let same : y.added ≡ x.added = append_cancel_right y.added x.added old (sym y.grown.grow ∙ sym new ∙ x.grown.grow) in
+    record { new = x.new; told = x.told; added = x.added; grown = x.grown; is = request_by old x.added (subst (SendsOnce old) same y.is) (x.is.so.1) }
+
+-- it doesn't ask only where no channel is open
+pub must_ask : (s t : Story) → Growing (Leaves (Ok false)) s t → WhereTold (λ places. HasPlace (channel (entries places))) s → (old : List Placed) → places_in s ≡ Some old → ⊥
+must_ask s t g place old p = let x = g old p in absurd (let e : false ≡ true = x.is.so.0 ∙ open_place (channel (entries old)) (place old p) in cc)
+
+later_ends : (old one two : List Placed) → Request old one → Each EndsNone (one ++ old) two → EndsOnce old (two ++ one)
+later_ends old one two r none = record {
+  later = two;
+  request = r.request;
+  parts = ap (λ (z : List Placed). two ++ z) r.parts;
+  asks = r.asks;
+  once = subst (λ (z : List Placed). Each EndsNone (z ++ old) two) r.parts none;
+}
+
+pub asked_leaves : (s t u : Story) → GoesOn s t → GoesOn t u → Growing (Leaves (Ok true)) s t → Growing SendsOnce s t → Growing (Each EndsNone) t u → Going LeavesOn s u
+asked_leaves s t u g h leaves once none new p =
+    let all : Growing EndsOnce s u = grows_then Request (Each EndsNone) EndsOnce s t u g h later_ends (asked_by s t leaves once) none in
+    let x = step_of EndsOnce s u new (goes_again s t u g h) all p in
+    record { old = x.old; told = x.told; is = record { added = x.added; all = x.grow; ends = x.is } }
+
+pub leaves_by : (asked : Bool) (s t u : Story) → GoesOn s t → GoesOn t u → Growing (Leaves (Ok asked)) s t → Growing SendsOnce s t → Growing (Each EndsNone) t u → WhereTold (λ places. HasPlace (channel (entries places))) s → Going LeavesOn s u
+leaves_by true s t u g h leaves once none place = asked_leaves s t u g h leaves once none
+leaves_by false s t u g h leaves once none place = λ new p.
+    let b = told_before s u new (goes_again s t u g h) p in
+    absurd (must_ask s t leaves place b.0 b.1)
+
+-- a count that rose has risen still
+pub rose_on : (a b c : ℕ) → a ≤ b → b ≤ c → Rose a b → Rose a c
+rose_on a b c m n (inl lt) = inl (omega (arith, lt, n))
+rose_on a b c m n (inr top) = by_top (ltb b c) refl where
+  by_top : (t : Bool) → ltb b c ≡ t → Rose a c
+  by_top true e = let lt : b < c = ltb-true b c e in inl (omega (arith, m, lt))
+  by_top false e = let le : c ≤ b = ltb-false b c e in let same : c ≡ b = omega (arith, n, le) in inr (same ∙ top)
+
+pub rose_from : (a b c : ℕ) → a ≤ b → Rose b c → Rose a c
+rose_from a b c m (inl lt) = inl (omega (arith, m, lt))
+rose_from a b c m (inr top) = inr top
+
+-- ---- by what was told of it
+
+pub leaves_told : (call : Result Bool HubFault) (asked : Bool) → ToldAs call (Ok asked) → (s t : Story) → Growing (Leaves call) s t → Growing (Leaves (Ok asked)) s t
+leaves_told call asked told s t g = subst (λ (r : Result Bool HubFault). Growing (Leaves r) s t) (told_ok call asked told) g
+
+failed_rose : (call : Result Bool HubFault) (old new : ℕ) → ToldAs {X = Bool} call (Err fails.LinkFailed) → IfErr call (λ fault. FailsWhere fault old new) → Rose old new
+failed_rose (Ok asked) old new told cause = absurd (cc)
+failed_rose (Err (hub.NoMemory want)) old new told cause = absurd (cc)
+failed_rose (Err hub.LinkFailed) old new told cause = cause
+failed_rose (Err (hub.GatewayRefused three)) old new told cause = absurd (cc)
+failed_rose (Err hub.Flooded) old new told cause = absurd (cc)
+failed_rose (Err (hub.WrongLine device tunnel)) old new told cause = absurd (cc)
+
+pub failed_by : (call : Result Bool HubFault) (why : AssignFault) (old new : ℕ) → ToldAs call (Err why) → why ≡ fails.LinkFailed → IfErr call (λ fault. FailsWhere fault old new) → Rose old new
+failed_by call why old new told is cause = failed_rose call old new (subst (λ (z : AssignFault). ToldAs {X = Bool} call (Err z)) is told) cause
+
+same_fault : (why other : AssignFault) → (let one : Result Bool AssignFault = Err why in one) ≡ Err other → other ≡ why
+same_fault why other e = cc
+
+by_fault : (fault : HubFault) (old new : ℕ) → FailsWhere fault old new → FailsBy (fault_of fault) old new
+by_fault (hub.NoMemory want) old new h = tt
+by_fault hub.LinkFailed old new h = h
+by_fault (hub.GatewayRefused three) old new h = tt
+by_fault hub.Flooded old new h = tt
+by_fault (hub.WrongLine device tunnel) old new h = tt
+
+pub fails_by : (call : Result Bool HubFault) (why : AssignFault) (old new : ℕ) → ToldAs call (Err why) → IfErr call (λ fault. FailsWhere fault old new) → FailsBy why old new
+fails_by (Ok asked) why old new told cause = absurd (cc)
+fails_by (Err fault) why old new told cause = subst (λ (z : AssignFault). FailsBy z old new) (same_fault why (fault_of fault) told) (by_fault fault old new cause)
+
+-- ---- after an answer
+
+pub closing_fails : (wanted : IndAddr) (assigned : Assigned) (why : AssignFault) (s t : Story) → WhereTold (AnsweredBy wanted assigned) s → Going (ClosesSo wanted) s t → WhereTold (FailsSo why) t → WhereTold (EndsSo wanted (Err why)) t
+closing_fails wanted assigned why s t a c f new p = let x = c new p in (f new p, x.is.rightly (a x.old x.told).stands.rightly)
+
+pub left_so : (wanted : IndAddr) (assigned : Assigned) (s t : Story) → WhereTold (AnsweredBy wanted assigned) s → Going LeavesOn s t → WhereTold (LeavesAnswered wanted assigned) t
+left_so wanted assigned s t a l new p = let x = l new p in record { talk = x.old; answered = a x.old x.told; leaves = x.is }

@@ -1,5 +1,5 @@
 -- The search, and what comes of the talk.
-use Rattle.std.proofs.Common.{◌≡◌, ◌≢◌, ℕ, suc, ◌+◌, ◌<◌, ◌≤◌, List, [], ◌∷◌, ◌++◌, length, Bool, true, false, cond, Option, Some, None, Result, Ok, Err, refl, sym, ◌∙◌, ap, subst, arith}
+use Rattle.std.proofs.Common.{◌≡◌, ◌≢◌, ℕ, suc, ◌+◌, ◌<◌, ◌≤◌, List, [], ◌∷◌, ◌++◌, length, Bool, true, false, cond, Option, Some, None, Result, Ok, Err, refl, sym, ◌∙◌, ap, subst, append_assoc, arith}
 use Rattle.std.specs.Prelude.{OnOk, IfErr}
 use Rattle.knx_model.specs.declared.address.IndAddr.{IndAddr}
 use Rattle.line_model.specs.Record.{Placed, entries}
@@ -7,7 +7,7 @@ use Rattle.line_model.specs.LinkStory.{Story, places_in}
 use Rattle.line_model.specs.Moments.{moments}
 use Rattle.tunnel_link.specs.Rights.{WhereTold}
 use Rattle.address_world.specs.declared.asked.Asked.{Asked}
-use Rattle.address_world.specs.declared.asked.Asked.TheVariants.{Read, Connect, Write}
+use Rattle.address_world.specs.declared.asked.Asked.TheVariants.{Read, Connect, Disconnect, Write}
 use Rattle.address_world.specs.Keeps.{frame_of}
 use Rattle.address_commission.specs.declared.assigned.AssignFault.{AssignFault}
 use Rattle.address_commission.specs.declared.assigned.Assigned.{Assigned}
@@ -16,7 +16,7 @@ use Rattle.address_commission.specs.declared.ear.Ear.{Ear}
 use Rattle.address_commission.specs.declared.ear.Heard.{Heard}
 use Rattle.address_commission.specs.declared.ear.Heard.TheVariants as ear
 use Rattle.address_commission.specs.Rounds.{Round, rounds, is_read, answers}
-use Rattle.address_commission.specs.Talk.{AsksFor, IsSilent, AllSilent, Searches, OneOther, SeveralAnswer, MayAsk, ReadsFirst, Connects, Writes, ReadsLast, Gives, NobodyAnswers, HasItAlready, ManyAnswer, ManyAnswerLate, AnotherHasIt, HasItNow, IsntSure}
+use Rattle.address_commission.specs.Talk.{AsksFor, IsSilent, AllSilent, Searches, OneOther, SeveralAnswer, MayAsk, ReadsFirst, Connects, Disconnects, Writes, ReadsLast, Gives, NobodyAnswers, HasItAlready, ManyAnswer, ManyAnswerLate, AnotherHasIt, HasItNow, IsntSure}
 use Rattle.address_commission.specs.Going.{Going, OneMore, AsksOne}
 use Rattle.address_commission.specs.Listening.{HeardSo, HearsRounds, Listens, Begins, IsTurnTo, IsOut, SearchedSo, FoundSo, TriedBy, SureSo}
 use Rattle.address_commission.specs.Ends.{AnsweredBy}
@@ -88,7 +88,7 @@ anybody wanted e s h out p q = last_by wanted e e.heard (rounds (moments p)) ref
 -- ---- what came of the search
 
 answer : (wanted : IndAddr) (assigned : Assigned) (e : Ear) (places : List Placed) → IsOut wanted e places → Gives wanted (rounds (moments places)) assigned → AnsweredBy wanted assigned places
-answer wanted assigned e places o g = record { stands = o.listens.stands; heard_out = o.heard_out; gives = g }
+answer wanted assigned e places o g = record { stands = o.listens.stands; place = o.place; heard_out = o.heard_out; gives = g }
 
 found_by : (wanted : IndAddr) (assigned : Assigned) (heard : Heard) (e : Ear) (rs : List Round) → e.heard ≡ heard → FoundSo wanted heard (Some assigned) → SearchedSo wanted heard rs → HearsRounds e rs → Gives wanted rs assigned
 found_by wanted assigned ear.Nobody e rs is f s l = let q : NoUnit ≡ assigned = sym (cc) in subst (Gives wanted rs) q (NobodyAnswers s.0 s.1)
@@ -150,42 +150,94 @@ still_other wanted heard own both source o e is =
 not_none : (wanted : IndAddr) (heard own both : List IndAddr) → OneOther wanted heard → both ≡ heard ++ own → both ≡ [] → ⊥
 not_none wanted heard own both o e is = let all : o.source ∷ own ≡ [] = sym (e ∙ ap (λ (z : List IndAddr). z ++ own) o.one) ∙ is in cc
 
-connect_answers : (wanted : IndAddr) (c : Round) (rs : List Round) → AsksFor wanted Connect c → answers (c ∷ rs) ≡ answers rs ++ c.answers
-connect_answers wanted c rs asks = rw asks refl
+-- ---- the T_Disconnect was put, where the T_Connect was confirmed so
 
-tried_by : (wanted : IndAddr) (assigned : Assigned) (heard : Heard) (confirmed : Option Bool) (e : Ear) (rs : List Round) → e.heard ≡ heard → e.confirmed ≡ confirmed → TriedBy heard confirmed (Some assigned) → HasConnected wanted rs → HearsRounds e rs → Gives wanted rs assigned
-tried_by wanted assigned heard confirmed e [] is con t h l = absurd h
-tried_by wanted assigned heard confirmed e (c ∷ []) is con t h l = absurd h
-tried_by wanted assigned (ear.Several first second) confirmed e (c ∷ r ∷ before) is con t h l =
+may_disconnect : (wanted : IndAddr) (rs : List Round) → HasConnected wanted rs → MayAsk wanted rs Disconnect
+may_disconnect wanted [] h = absurd h
+may_disconnect wanted (c ∷ []) h = absurd h
+may_disconnect wanted (c ∷ r ∷ before) h = Disconnects h.0
+
+pub disconnect_turn : (wanted : IndAddr) (e : Ear) (s : Story) → WhereTold (λ places. HasConnected wanted (rounds (moments places))) s → WhereTold (IsOut wanted e) s → WhereTold (IsTurnTo wanted Disconnect) s
+disconnect_turn wanted e s h out p q = let o = out p q in record { may = may_disconnect wanted (rounds (moments p)) (h p q); heard_out = o.heard_out; place = o.place }
+
+pub record Tried (wanted : IndAddr) (connected : Option Bool) (d c r : Round) (before : List Round) : Type 0 where
+  pub ends : AsksFor wanted Disconnect d
+  pub asks : AsksFor wanted Connect c
+  pub confirmed : c.confirmed ≡ connected
+  pub some : connected ≢ None
+  pub searches : Searches wanted r before
+  pub one : OneOther wanted (answers (r ∷ before))
+
+abbrev pub HasDisconnected : IndAddr → Option Bool → List Round → Type 0
+HasDisconnected wanted connected [] = ⊥
+HasDisconnected wanted connected (d ∷ []) = ⊥
+HasDisconnected wanted connected (d ∷ c ∷ []) = ⊥
+HasDisconnected wanted connected (d ∷ c ∷ r ∷ before) = Tried wanted connected d c r before
+
+disconnected_by : (wanted : IndAddr) (e : Ear) (old new : List Round) → OneMore wanted Disconnect old new → HasConnected wanted old → HearsRounds e old → e.confirmed ≢ None → HasDisconnected wanted e.confirmed new
+disconnected_by wanted e old [] m h l some = absurd m
+disconnected_by wanted e [] (d ∷ rs) m h l some = absurd h
+disconnected_by wanted e (c ∷ []) (d ∷ rs) m h l some = absurd h
+disconnected_by wanted e (c ∷ r ∷ before) (d ∷ rs) m h l some =
+    subst (λ (z : List Round). HasDisconnected wanted e.confirmed (d ∷ z)) (sym m.1) (record { ends = m.0; asks = h.0; confirmed = sym l.1; some = some; searches = h.1; one = h.2 })
+
+pub has_disconnected : (wanted : IndAddr) (e : Ear) (s t : Story) → WhereTold (λ places. HasConnected wanted (rounds (moments places))) s → WhereTold (IsOut wanted e) s → Going (AsksOne wanted Disconnect) s t
+    → WhereTold (λ places. HasDisconnected wanted e.confirmed (rounds (moments places))) t
+has_disconnected wanted e s t h out m new p =
+    let x = m new p in
+    let o = out x.old x.told in
+    disconnected_by wanted e (rounds (moments x.old)) (rounds (moments new)) x.is (h x.old x.told) o.listens.hears.rounds_so o.confirmed
+
+-- what was heard in both rounds comes behind what was heard before them
+tried_answers : (wanted : IndAddr) (d c : Round) (rs : List Round) → AsksFor wanted Disconnect d → AsksFor wanted Connect c → answers (d ∷ c ∷ rs) ≡ answers rs ++ (c.answers ++ d.answers)
+tried_answers wanted d c rs ends asks = rw (ends, asks) (append_assoc (answers rs) c.answers d.answers)
+
+tried_by : (wanted : IndAddr) (assigned : Assigned) (heard : Heard) (connected : Option Bool) (e : Ear) (d c r : Round) (before : List Round) → e.heard ≡ heard → TriedBy heard connected (Some assigned) → Tried wanted connected d c r before → HeardSo e.heard (answers (d ∷ c ∷ r ∷ before))
+    → Gives wanted (d ∷ c ∷ r ∷ before) assigned
+tried_by wanted assigned (ear.Several first second) connected e d c r before is t h l =
     let q : Several first second ≡ assigned = sym (cc) in
-    subst (Gives wanted (c ∷ r ∷ before)) q (ManyAnswerLate first second h.1 h.0 (subst (λ (x : Heard). HeardSo x (answers (c ∷ r ∷ before))) is l.0))
-tried_by wanted assigned ear.Nobody confirmed e (c ∷ r ∷ before) is con t h l =
-    absurd (not_none wanted (answers (r ∷ before)) c.answers (answers (c ∷ r ∷ before)) h.2 (connect_answers wanted c (r ∷ before) h.0) (subst (λ (x : Heard). HeardSo x (answers (c ∷ r ∷ before))) is l.0))
-tried_by wanted assigned (ear.One source) (Some false) e (c ∷ r ∷ before) is con t h l =
+    subst (Gives wanted (d ∷ c ∷ r ∷ before)) q (ManyAnswerLate first second h.searches h.asks h.ends (subst (λ (x : Heard). HeardSo x (answers (d ∷ c ∷ r ∷ before))) is l))
+tried_by wanted assigned ear.Nobody connected e d c r before is t h l =
+    absurd (not_none wanted (answers (r ∷ before)) (c.answers ++ d.answers) (answers (d ∷ c ∷ r ∷ before)) h.one (tried_answers wanted d c (r ∷ before) h.ends h.asks) (subst (λ (x : Heard). HeardSo x (answers (d ∷ c ∷ r ∷ before))) is l))
+tried_by wanted assigned (ear.One source) (Some false) e d c r before is t h l =
     let q : Taken ≡ assigned = sym (cc) in
-    subst (Gives wanted (c ∷ r ∷ before)) q
-    (AnotherHasIt h.1 h.0 (sym l.1 ∙ con) (still_other wanted (answers (r ∷ before)) c.answers (answers (c ∷ r ∷ before)) source h.2 (connect_answers wanted c (r ∷ before) h.0) (subst (λ (x : Heard). HeardSo x (answers (c ∷ r ∷ before))) is l.0)))
-tried_by wanted assigned (ear.One source) (Some true) e (c ∷ r ∷ before) is con t h l = absurd (cc)
-tried_by wanted assigned (ear.One source) None e (c ∷ r ∷ before) is con t h l = absurd (cc)
+    subst (Gives wanted (d ∷ c ∷ r ∷ before)) q
+    (AnotherHasIt h.searches h.asks h.ends h.confirmed
+    (still_other wanted (answers (r ∷ before)) (c.answers ++ d.answers) (answers (d ∷ c ∷ r ∷ before)) source h.one (tried_answers wanted d c (r ∷ before) h.ends h.asks) (subst (λ (x : Heard). HeardSo x (answers (d ∷ c ∷ r ∷ before))) is l)))
+tried_by wanted assigned (ear.One source) (Some true) e d c r before is t h l = absurd (cc)
+tried_by wanted assigned (ear.One source) None e d c r before is t h l = absurd (cc)
 
-pub tried_gives : (wanted : IndAddr) (assigned : Assigned) (e : Ear) (s : Story) → TriedBy e.heard e.confirmed (Some assigned) → WhereTold (λ places. HasConnected wanted (rounds (moments places))) s → WhereTold (IsOut wanted e) s → WhereTold (AnsweredBy wanted assigned) s
-tried_gives wanted assigned e s t h out p q = let o = out p q in answer wanted assigned e p o (tried_by wanted assigned e.heard e.confirmed e (rounds (moments p)) refl refl t (h p q) o.listens.hears.rounds_so)
+tried_rounds : (wanted : IndAddr) (assigned : Assigned) (connected : Option Bool) (e : Ear) (rs : List Round) → TriedBy e.heard connected (Some assigned) → HasDisconnected wanted connected rs → HearsRounds e rs → Gives wanted rs assigned
+tried_rounds wanted assigned connected e [] t h l = absurd h
+tried_rounds wanted assigned connected e (d ∷ []) t h l = absurd h
+tried_rounds wanted assigned connected e (d ∷ c ∷ []) t h l = absurd h
+tried_rounds wanted assigned connected e (d ∷ c ∷ r ∷ before) t h l = tried_by wanted assigned e.heard connected e d c r before refl t h l.0
 
-may_write : (wanted : IndAddr) (heard : Heard) (confirmed : Option Bool) (e : Ear) (rs : List Round) → e.heard ≡ heard → e.confirmed ≡ confirmed → (e.confirmed ≡ None → ⊥) → TriedBy heard confirmed None → HasConnected wanted rs → HearsRounds e rs → MayAsk wanted rs Write
-may_write wanted heard confirmed e [] is con some t h l = absurd h
-may_write wanted heard confirmed e (c ∷ []) is con some t h l = absurd h
-may_write wanted (ear.Several first second) confirmed e (c ∷ r ∷ before) is con some t h l = absurd (cc)
-may_write wanted ear.Nobody confirmed e (c ∷ r ∷ before) is con some t h l =
-    absurd (not_none wanted (answers (r ∷ before)) c.answers (answers (c ∷ r ∷ before)) h.2 (connect_answers wanted c (r ∷ before) h.0) (subst (λ (x : Heard). HeardSo x (answers (c ∷ r ∷ before))) is l.0))
-may_write wanted (ear.One source) (Some true) e (c ∷ r ∷ before) is con some t h l =
-    Writes h.1 h.0 (sym l.1 ∙ con) (still_other wanted (answers (r ∷ before)) c.answers (answers (c ∷ r ∷ before)) source h.2 (connect_answers wanted c (r ∷ before) h.0) (subst (λ (x : Heard). HeardSo x (answers (c ∷ r ∷ before))) is l.0))
-may_write wanted (ear.One source) (Some false) e (c ∷ r ∷ before) is con some t h l = absurd (cc)
-may_write wanted (ear.One source) None e (c ∷ r ∷ before) is con some t h l = absurd (some con)
+pub tried_gives : (wanted : IndAddr) (assigned : Assigned) (connected : Option Bool) (e : Ear) (s : Story) → TriedBy e.heard connected (Some assigned) → WhereTold (λ places. HasDisconnected wanted connected (rounds (moments places))) s → WhereTold (IsOut wanted e) s
+    → WhereTold (AnsweredBy wanted assigned) s
+tried_gives wanted assigned connected e s t h out p q = let o = out p q in answer wanted assigned e p o (tried_rounds wanted assigned connected e (rounds (moments p)) t (h p q) o.listens.hears.rounds_so)
 
-pub write_turn : (wanted : IndAddr) (e : Ear) (s : Story) → TriedBy e.heard e.confirmed None → WhereTold (λ places. HasConnected wanted (rounds (moments places))) s → WhereTold (IsOut wanted e) s → WhereTold (IsTurnTo wanted Write) s
-write_turn wanted e s t h out p q =
+may_write : (wanted : IndAddr) (heard : Heard) (connected : Option Bool) (e : Ear) (d c r : Round) (before : List Round) → e.heard ≡ heard → TriedBy heard connected None → Tried wanted connected d c r before → HeardSo e.heard (answers (d ∷ c ∷ r ∷ before))
+    → MayAsk wanted (d ∷ c ∷ r ∷ before) Write
+may_write wanted (ear.Several first second) connected e d c r before is t h l = absurd (cc)
+may_write wanted ear.Nobody connected e d c r before is t h l =
+    absurd (not_none wanted (answers (r ∷ before)) (c.answers ++ d.answers) (answers (d ∷ c ∷ r ∷ before)) h.one (tried_answers wanted d c (r ∷ before) h.ends h.asks) (subst (λ (x : Heard). HeardSo x (answers (d ∷ c ∷ r ∷ before))) is l))
+may_write wanted (ear.One source) (Some true) e d c r before is t h l =
+    Writes h.searches h.asks h.ends h.confirmed
+    (still_other wanted (answers (r ∷ before)) (c.answers ++ d.answers) (answers (d ∷ c ∷ r ∷ before)) source h.one (tried_answers wanted d c (r ∷ before) h.ends h.asks) (subst (λ (x : Heard). HeardSo x (answers (d ∷ c ∷ r ∷ before))) is l))
+may_write wanted (ear.One source) (Some false) e d c r before is t h l = absurd (cc)
+may_write wanted (ear.One source) None e d c r before is t h l = absurd (h.some refl)
+
+write_rounds : (wanted : IndAddr) (connected : Option Bool) (e : Ear) (rs : List Round) → TriedBy e.heard connected None → HasDisconnected wanted connected rs → HearsRounds e rs → MayAsk wanted rs Write
+write_rounds wanted connected e [] t h l = absurd h
+write_rounds wanted connected e (d ∷ []) t h l = absurd h
+write_rounds wanted connected e (d ∷ c ∷ []) t h l = absurd h
+write_rounds wanted connected e (d ∷ c ∷ r ∷ before) t h l = may_write wanted e.heard connected e d c r before refl t h l.0
+
+pub write_turn : (wanted : IndAddr) (connected : Option Bool) (e : Ear) (s : Story) → TriedBy e.heard connected None → WhereTold (λ places. HasDisconnected wanted connected (rounds (moments places))) s → WhereTold (IsOut wanted e) s → WhereTold (IsTurnTo wanted Write) s
+write_turn wanted connected e s t h out p q =
     let o = out p q in
-    record { may = may_write wanted e.heard e.confirmed e (rounds (moments p)) refl refl o.confirmed t (h p q) o.listens.hears.rounds_so; heard_out = o.heard_out; place = o.place }
+    record { may = write_rounds wanted connected e (rounds (moments p)) t (h p q) o.listens.hears.rounds_so; heard_out = o.heard_out; place = o.place }
 
 -- ---- the write was put, and addresses are read once more
 

@@ -20,7 +20,7 @@ use Rattle.address_commission.specs.declared.ear.Ear.{Ear}
 use Rattle.address_commission.proofs.Folds.{nothing_rounds, nothing_lost, nothing_puts, PutsNo, talks_on, NoGot, sends_no_got, quiet_no_got, quiet_on, count_on, poll_quiet, poll_count}
 use Rattle.address_commission.proofs.Heard.{go_same, Hearing, poll_heard, poll_since}
 
-some_is : {X : Type 0} (x y : X) → Some x ≡ Some y → x ≡ y
+pub some_is : {X : Type 0} (x y : X) → Some x ≡ Some y → x ≡ y
 some_is x y e = cc
 
 -- what tells places told them before

@@ -1,10 +1,13 @@
 -- How giving an address ends, by the link's record: what came of it is read off the talk, in which the channel wasn't lost and few datagrams came;
 -- after that the channel is ended, and no request is put. A fault comes exactly at its cause.
-use Rattle.std.specs.Prelude.{◌≡◌, ℕ, ◌<◌, ◌≤◌, true, List, reverse, Result, Ok, Err, OnOk, IfErr}
+use Rattle.std.specs.Prelude.{◌≡◌, ℕ, ◌<◌, ◌≤◌, true, List, [], ◌∷◌, ◌++◌, reverse, Result, Ok, Err, OnOk, IfErr}
 use Rattle.knx_model.specs.declared.address.IndAddr.{IndAddr}
 use Rattle.knx_model.specs.Outside.{Rose}
 use Rattle.line_model.specs.declared.fault.HubFault.{HubFault}
 use Rattle.line_model.specs.declared.fault.HubFault.TheVariants as hub
+use Rattle.line_model.specs.Asks.{HasPlace}
+use Rattle.line_model.specs.ClientView.{channel}
+use Rattle.line_model.specs.Closing.{asks_to_end}
 use Rattle.line_model.specs.Record.{Placed, entries}
 use Rattle.line_model.specs.Moments.{moments}
 use Rattle.line_model.specs.Faults.{datagrams_taken, flood, tries}
@@ -13,6 +16,7 @@ use Rattle.address_commission.specs.Talk.{Gives, HeardOut, TalksRightly}
 use Rattle.line_model.specs.LinkStory.{Story}
 use Rattle.tunnel_link.specs.declared.came.Loss.{Loss}
 use Rattle.tunnel_link.specs.declared.came.Loss.TheVariants.{Stays}
+use Rattle.tunnel_link.specs.Alone.{Each, EndsNone}
 use Rattle.tunnel_link.specs.Rights.{WhereTold}
 use Rattle.address_world.specs.declared.asked.Asked.{Asked}
 use Rattle.address_commission.specs.Going.{Going, GoesOnFrom, AsksOne}
@@ -32,9 +36,10 @@ fault_of (hub.WrongLine device tunnel) = Flooded
 
 -- ---- what came of it
 
--- of the places up to the answer
+-- of the places up to the answer, where the channel is open
 pub record AnsweredBy (wanted : IndAddr) (assigned : Assigned) (talk : List Placed) : Type 0 where
   pub stands : Stands wanted talk
+  pub place : HasPlace (channel (entries talk))
   pub heard_out : HeardOut wanted (rounds (moments talk)) (entries talk)
   pub gives : Gives wanted (rounds (moments talk)) assigned
 
@@ -44,6 +49,28 @@ pub record Answered (wanted : IndAddr) (assigned : Assigned) (places : List Plac
   pub answered : AnsweredBy wanted assigned talk
   pub closes : GoesOnFrom talk places
   pub rightly : TalksRightly wanted places
+
+-- ---- the end of the channel
+
+-- the first thing that was added asks to end the channel, and no other asks to end it while it is open
+pub record EndsOnce (old added : List Placed) : Type 0 where
+  pub later : List Placed
+  pub request : Placed
+  pub parts : added ≡ later ++ request ∷ []
+  pub asks : asks_to_end request.what ≡ true
+  pub once : Each EndsNone (request ∷ old) later
+
+-- after these places
+pub record LeavesOn (old new : List Placed) : Type 0 where
+  pub added : List Placed
+  pub all : new ≡ added ++ old
+  pub ends : EndsOnce old added
+
+-- after the answer
+pub record Leaves (wanted : IndAddr) (assigned : Assigned) (places : List Placed) : Type 0 where
+  pub talk : List Placed
+  pub answered : AnsweredBy wanted assigned talk
+  pub leaves : LeavesOn talk places
 
 -- ---- faults
 

@@ -65,6 +65,7 @@ HearsWhat (came.Frame frame) now old new = TakesFrame frame now old new
 abbrev pub quiet_after : Asked → ℕ
 quiet_after asked.Read = listening_wait
 quiet_after asked.Connect = 0
+quiet_after asked.Disconnect = 0
 quiet_after asked.Write = 0
 
 pub record HasWaited (quiet : ℕ) (e : Ear) (places : List Placed) : Type 0 where
@@ -111,9 +112,6 @@ TriedBy (ear.Several first second) confirmed tried = tried ≡ Some (Several fir
 TriedBy heard (Some false) tried = tried ≡ Some Taken
 TriedBy heard (Some true) tried = tried ≡ None
 TriedBy heard None tried = tried ≡ None
-
-abbrev pub TriedSo : Ear → Option Assigned → Type 0
-TriedSo e tried = TriedBy e.heard e.confirmed tried
 
 abbrev pub SureSo : IndAddr → Heard → Assigned → Type 0
 SureSo wanted (ear.One source) Done = source ≡ wanted

@@ -1,6 +1,7 @@
 -- How an address is given (this project's own, over the services of ISO/IEC 14543-3-1): addresses are read, until somebody answers, three times at
--- most. Where one unit alone answered and hasn't the wanted address, a T_Connect to that tells whether another has it. Where none has, it is
--- written, confirmed or not, and addresses are read once more. A listening ends once the read is confirmed and 3,000 ms in turn were quiet.
+-- most. Where one unit alone answered and hasn't the wanted address, a T_Connect to that tells whether another has it, and a T_Disconnect follows, so that
+-- no connection is left open. Where none has it, it is written, confirmed or not, and addresses are read once more. A listening ends once the read is
+-- confirmed and 3,000 ms in turn were quiet.
 use Rattle.std.specs.Prelude.{◌≡◌, ◌≢◌, ℕ, ◌+◌, ◌<◌, ◌≤◌, true, false, List, [], ◌∷◌, ◌++◌, length, Option, Some, None}
 use Rattle.std.specs.List.{AllByRecursion}
 use Rattle.knx_model.specs.declared.address.IndAddr.{IndAddr}
@@ -10,9 +11,9 @@ use Rattle.line_model.specs.LinkStory.{newest_time}
 use Rattle.line_model.specs.ClientView.{Deed, Puts, channel, deed}
 use Rattle.line_model.specs.Moments.{moments}
 use Rattle.address_world.specs.declared.asked.Asked.{Asked}
-use Rattle.address_world.specs.declared.asked.Asked.TheVariants.{Read, Connect, Write}
+use Rattle.address_world.specs.declared.asked.Asked.TheVariants.{Read, Connect, Disconnect, Write}
 use Rattle.address_world.specs.Keeps.{frame_of}
-use Rattle.address_commission.specs.Rounds.{Round, rounds, answers, quiet_since}
+use Rattle.address_commission.specs.Rounds.{Round, rounds, answers, quiet_since, has_lost}
 use Rattle.address_commission.specs.declared.assigned.Assigned.{Assigned}
 use Rattle.address_commission.specs.declared.assigned.Assigned.TheVariants.{Done, NoUnit, Several, Taken, Unconfirmed}
 
@@ -51,7 +52,8 @@ pub record SeveralAnswer (first second : IndAddr) (heard : List IndAddr) : Type 
 pub data MayAsk (wanted : IndAddr) : List Round → Asked → Type 0 where
   ReadsFirst : {rs : List Round} → AllSilent wanted rs → length rs < 3 → MayAsk wanted rs Read
   Connects : {r : Round} {before : List Round} → Searches wanted r before → OneOther wanted (answers (r ∷ before)) → MayAsk wanted (r ∷ before) Connect
-  Writes : {c r : Round} {before : List Round} → Searches wanted r before → AsksFor wanted Connect c → c.confirmed ≡ Some true → OneOther wanted (answers (c ∷ r ∷ before)) → MayAsk wanted (c ∷ r ∷ before) Write
+  Disconnects : {c : Round} {rs : List Round} → AsksFor wanted Connect c → MayAsk wanted (c ∷ rs) Disconnect
+  Writes : {d c r : Round} {before : List Round} → Searches wanted r before → AsksFor wanted Connect c → AsksFor wanted Disconnect d → c.confirmed ≡ Some true → OneOther wanted (answers (d ∷ c ∷ r ∷ before)) → MayAsk wanted (d ∷ c ∷ r ∷ before) Write
   ReadsLast : {w : Round} {rs : List Round} → AsksFor wanted Write w → MayAsk wanted (w ∷ rs) Read
 
 abbrev pub listening_wait : ℕ
@@ -66,11 +68,13 @@ abbrev pub HeardOut : IndAddr → List Round → List Entry → Type 0
 HeardOut wanted [] record_so_far = Unit {0}
 HeardOut wanted (r ∷ rs) record_so_far = IsHeardOut wanted r record_so_far
 
+-- it is put while the channel wasn't lost
 pub record AsksRightly (wanted : IndAddr) (older : List Placed) (cemi : List ℕ) : Type 0 where
   pub asked : Asked
   pub reads : ldata_in cemi ≡ Some (frame_of wanted asked)
   pub may : MayAsk wanted (rounds (moments older)) asked
   pub heard_out : HeardOut wanted (rounds (moments older)) (entries older)
+  pub kept : has_lost (moments older) ≡ false
 
 abbrev pub DoesRightly : IndAddr → List Placed → Deed → Type 0
 DoesRightly wanted older (Puts cemi) = AsksRightly wanted older cemi
@@ -87,7 +91,7 @@ pub data Gives (wanted : IndAddr) : List Round → Assigned → Type 0 where
   NobodyAnswers : {rs : List Round} → AllSilent wanted rs → length rs ≡ 3 → Gives wanted rs NoUnit
   HasItAlready : {r : Round} {before : List Round} → Searches wanted r before → answers (r ∷ before) ≡ wanted ∷ [] → Gives wanted (r ∷ before) Done
   ManyAnswer : {r : Round} {before : List Round} (first second : IndAddr) → Searches wanted r before → SeveralAnswer first second (answers (r ∷ before)) → Gives wanted (r ∷ before) (Several first second)
-  ManyAnswerLate : {c r : Round} {before : List Round} (first second : IndAddr) → Searches wanted r before → AsksFor wanted Connect c → SeveralAnswer first second (answers (c ∷ r ∷ before)) → Gives wanted (c ∷ r ∷ before) (Several first second)
-  AnotherHasIt : {c r : Round} {before : List Round} → Searches wanted r before → AsksFor wanted Connect c → c.confirmed ≡ Some false → OneOther wanted (answers (c ∷ r ∷ before)) → Gives wanted (c ∷ r ∷ before) Taken
+  ManyAnswerLate : {d c r : Round} {before : List Round} (first second : IndAddr) → Searches wanted r before → AsksFor wanted Connect c → AsksFor wanted Disconnect d → SeveralAnswer first second (answers (d ∷ c ∷ r ∷ before)) → Gives wanted (d ∷ c ∷ r ∷ before) (Several first second)
+  AnotherHasIt : {d c r : Round} {before : List Round} → Searches wanted r before → AsksFor wanted Connect c → AsksFor wanted Disconnect d → c.confirmed ≡ Some false → OneOther wanted (answers (d ∷ c ∷ r ∷ before)) → Gives wanted (d ∷ c ∷ r ∷ before) Taken
   HasItNow : {v w : Round} {rs : List Round} → AsksFor wanted Read v → AsksFor wanted Write w → answers (v ∷ w ∷ rs) ≡ wanted ∷ [] → Gives wanted (v ∷ w ∷ rs) Done
   IsntSure : {v w : Round} {rs : List Round} → AsksFor wanted Read v → AsksFor wanted Write w → answers (v ∷ w ∷ rs) ≢ wanted ∷ [] → Gives wanted (v ∷ w ∷ rs) Unconfirmed

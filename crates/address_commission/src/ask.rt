@@ -70,6 +70,6 @@ fn quiet_after(asked: Asked) -> u32
 {
     match asked {
         Asked::Read => LISTENING_MS,
-        Asked::Connect | Asked::Write => 0,
+        Asked::Connect | Asked::Disconnect | Asked::Write => 0,
     }
 }

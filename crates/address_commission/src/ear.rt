@@ -62,7 +62,7 @@ impl Ear {
     {
         let heard = match asked {
             Asked::Read => Heard::Nobody,
-            Asked::Connect | Asked::Write => self.heard,
+            Asked::Connect | Asked::Disconnect | Asked::Write => self.heard,
         };
         Ear {
             heard,

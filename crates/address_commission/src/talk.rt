@@ -4,7 +4,7 @@ ghost use Rattle.std.specs.Prelude.{◌≡◌, ◌≤◌, IfErr, IfOk, OnOk, Non
 ghost use Rattle.line_model.specs.Moments.{moments};
 ghost use Rattle.tunnel_link.specs.Rights.{WhereTold};
 ghost use Rattle.address_commission.specs.Ends.{AnsweredBy, FailsBy, TalkFails};
-ghost use Rattle.address_commission.specs.Listening.{Begins, FoundSo, IsOut, Listens, SureSo, TriedSo};
+ghost use Rattle.address_commission.specs.Listening.{Begins, FoundSo, IsOut, Listens, SureSo, TriedBy};
 ghost use Rattle.address_commission.specs.Rounds.{rounds};
 
 use crate::ask::ask;
@@ -39,7 +39,9 @@ pub fn give<R: Wait, L: Link>(
         return Ok(assigned);
     }
     ask(rt, tunnel, ear, wanted, Asked::Connect)?;
-    if let Some(assigned) = tried(*ear) {
+    let connected = ear.confirmed;
+    ask(rt, tunnel, ear, wanted, Asked::Disconnect)?;
+    if let Some(assigned) = tried(ear.heard, connected) {
         return Ok(assigned);
     }
     ask(rt, tunnel, ear, wanted, Asked::Write)?;
@@ -59,11 +61,11 @@ fn found(heard: Heard, wanted: IndAddr) -> Option<Assigned>
     }
 }
 
-/// What came of the T_Connect; None where no unit has the wanted address, and still one unit answered.
-fn tried(ear: Ear) -> Option<Assigned>
-    ensures { TriedSo ear result }
+/// What came of the T_Connect, with an error or without; None where no unit has the wanted address, and still one unit answered.
+fn tried(heard: Heard, connected: Option<bool>) -> Option<Assigned>
+    ensures { TriedBy heard connected result }
 {
-    match (ear.heard, ear.confirmed) {
+    match (heard, connected) {
         (Heard::Several(first, second), _) => Some(Assigned::Several { first, second }),
         (_, Some(false)) => Some(Assigned::Taken),
         _ => None,

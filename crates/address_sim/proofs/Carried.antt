@@ -15,7 +15,8 @@ use Rattle.address_world.specs.AddressWorld.{AddressWorld, AddressEvent, UnitSta
 use Rattle.address_world.specs.AddressLegal.{MayHappen}
 use Rattle.address_sim.specs.Follows.{IsCarriedSo, are_all, broadcasts, carriage_of, one_more_if}
 use Rattle.address_sim.specs.Losses.{without}
-use Rattle.address_sim.specs.Told.{confirmed, is_broadcast}
+use Rattle.address_sim.specs.Told.{is_broadcast}
+use Rattle.tunnel_sim.specs.Gateways.{confirmed}
 
 -- ---- a frame that waits
 

@@ -8,3 +8,4 @@ pub mod Polling
 pub mod Links
 pub mod Waiting
 pub mod Carried
+pub mod Stays

@@ -8,3 +8,4 @@ pub mod Units
 pub mod Held
 pub mod Turns
 pub mod Driven
+pub mod Stays

@@ -1,8 +1,7 @@
 -- What the simulated bus tells: what it began with, and its events, the newest first. The world at each moment is what both give.
-use Rattle.std.specs.Prelude.{ℕ, Bool, not, ◌&&◌, ◌==◌, List, [], ◌∷◌, map}
+use Rattle.std.specs.Prelude.{ℕ, Bool, ◌&&◌, ◌==◌, List, [], ◌∷◌, map}
 use Rattle.knx_model.specs.declared.address.IndAddr.{IndAddr}
 use Rattle.knx_model.specs.declared.frames.cemi.Ldata.{Ldata}
-use Rattle.knx_model.specs.declared.frames.cemi.LdataCode.TheVariants.{Con}
 use Rattle.line_model.specs.LinkStory.{Story, Recorded}
 use Rattle.line_model.specs.Tunnel.{fresh}
 use Rattle.address_world.specs.declared.unit.Unit.{Unit as BusUnit}
@@ -56,6 +55,3 @@ happened r e = record r { events = e ∷ r.events }
 
 abbrev pub is_broadcast : Ldata → Bool
 is_broadcast frame = frame.group && (frame.destination == 0)
-
-abbrev pub confirmed : Ldata → Bool → Ldata
-confirmed frame is_confirmed = record frame { code = Con; error = not is_confirmed }

@@ -13,9 +13,7 @@ use address_world::{Unit, UnitScript};
 use knx_model::{IndAddr, List, NoMemory};
 use std::alloc::Global;
 use std::marker::Model;
-
-/// The tunnel's address before a text is loaded: 1.1.255.
-const DEFAULT_TUNNEL: IndAddr = IndAddr { raw: 0x11FF };
+use tunnel_sim::DEFAULT_TUNNEL;
 
 /// A bus of units behind a tunnel, which does just what its text says, and before one is loaded has no units. Contracts see what it began with, its
 /// events, the newest first, and how many of its calls failed.

@@ -6,10 +6,11 @@ ghost use Rattle.address_sim.specs.Follows.{AllSent};
 ghost use Rattle.address_sim.specs.Told.{is_broadcast};
 ghost use Rattle.address_sim.specs.Turns.{GoesUnseen, Stays, world};
 
-use crate::frames::{broadcast, confirmation, is_broadcast};
+use crate::frames::{broadcast, is_broadcast};
 use crate::happened::Happened;
 use crate::run::Run;
 use knx_model::{Ldata, NoMemory};
+use tunnel_sim::confirmation;
 
 impl Run {
     /// The client's next frame goes over the bus. Tells whether there was one. No unit has a response that isn't sent. At `Err` nothing has happened.

@@ -2,7 +2,7 @@
 
 ghost use Rattle.std.specs.Prelude.{◌≡◌};
 ghost use Rattle.address_world.specs.AddressWorld.{broadcast, response};
-ghost use Rattle.address_sim.specs.Told.{confirmed, is_broadcast};
+ghost use Rattle.address_sim.specs.Told.{is_broadcast};
 
 use apdu_frames::{service_in, service_octets};
 use knx_model::{Apdu, IndAddr, Ldata, LdataCode};
@@ -43,16 +43,5 @@ pub fn response(source: IndAddr) -> Ldata
         source: source.raw,
         destination: 0,
         tpdu: service_octets(Apdu::AddressResponse),
-    }
-}
-
-/// The confirmation of a frame.
-pub fn confirmation(frame: Ldata, is_confirmed: bool) -> Ldata
-    ensures { result ≡ confirmed frame is_confirmed }
-{
-    Ldata {
-        code: LdataCode::Con,
-        error: !is_confirmed,
-        ..frame
     }
 }

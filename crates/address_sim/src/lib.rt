@@ -9,6 +9,7 @@ mod events;
 mod frames;
 mod going;
 mod happened;
+mod laws;
 mod link;
 mod losses;
 mod noted;
@@ -18,4 +19,5 @@ mod units;
 
 pub use address_world::{AddressLink, IndAddr, Unit, UnitLoss, UnitScript};
 pub use bus::AddressBus;
+pub use laws::what_stays_is_all_that_it_began_with;
 pub use line_model::{Link, LinkFault, Polled};

@@ -5,14 +5,15 @@ use address_world::AddressLink;
 use line_model::{Link, LinkFault, Polled};
 
 impl Link for AddressBus {
-    ghost use Rattle.std.specs.Prelude.{[], length};
+    ghost use Rattle.std.specs.Prelude.{length};
     ghost use Rattle.address_world.specs.AddressStory.{record_of};
     ghost use Rattle.address_sim.specs.Driven.{BusNow};
+    ghost use Rattle.address_sim.specs.Stays.{lines_of};
     ghost use Rattle.address_sim.specs.Told.{start, story, time};
 
     ghost story = { λ (b : BusNow). story b.run };
 
-    ghost script = { λ (b : BusNow). [] };
+    ghost script = { λ (b : BusNow). lines_of b.run.begun };
 
     ghost clock = { λ (b : BusNow). time b.run };
 

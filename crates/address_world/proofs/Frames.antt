@@ -1,4 +1,4 @@
--- The three frames that are put, and what a broadcast of each asks.
+-- The four frames that are put, and what a broadcast of each asks.
 use Rattle.std.proofs.Common.{◌≡◌, ℕ, ◌+◌, ◌*◌, ◌/◌, ◌%◌, ◌⊎◌, inl, inr, Option, Some, None, refl, ap, arith}
 use Rattle.knx_model.specs.declared.address.IndAddr.{IndAddr}
 use Rattle.knx_model.specs.declared.frames.tpdu.Apdu.{Apdu}
@@ -7,7 +7,7 @@ use Rattle.knx_model.specs.ApduReading.{apdu_in, tpdu_in, service_in, apdu_octet
 use Rattle.line_model.specs.World.{on_bus}
 use Rattle.address_world.specs.AddressWorld.{broadcast}
 use Rattle.address_world.specs.declared.asked.Asked.{Asked}
-use Rattle.address_world.specs.declared.asked.Asked.TheVariants.{Read, Connect, Write}
+use Rattle.address_world.specs.declared.asked.Asked.TheVariants.{Read, Connect, Disconnect, Write}
 use Rattle.address_world.specs.Keeps.{frame_of}
 
 -- what such a frame asks of all
@@ -28,4 +28,5 @@ write_asks wanted = ap (λ raw. Some (AddressWrite (record { raw = raw }))) (joi
 pub frame_asks : (wanted me : IndAddr) (asked : Asked) → Asks wanted (broadcast (on_bus me (frame_of wanted asked)))
 frame_asks wanted me Read = inr (inl read_asks)
 frame_asks wanted me Connect = inl refl
+frame_asks wanted me Disconnect = inl refl
 frame_asks wanted me Write = inr (inr (write_asks wanted))

@@ -1,13 +1,13 @@
 -- What giving an address keeps of the units: at every moment each has the address that it began with, or is in programming mode and has the wanted
--- one. It holds of every legal list of events of a client that puts three frames alone: a broadcast read of addresses, a T_Connect to the wanted
--- address, and a broadcast write of it.
+-- one. It holds of every legal list of events of a client that puts four frames alone: a broadcast read of addresses, a T_Connect and a T_Disconnect
+-- to the wanted address, and a broadcast write of it.
 use Rattle.std.specs.Prelude.{◌≡◌, ℕ, ◌⊎◌, Bool, true, false, List, [], ◌∷◌, Some}
 use Rattle.knx_model.specs.declared.address.IndAddr.{IndAddr}
 use Rattle.knx_model.specs.declared.frames.cemi.Ldata.{Ldata}
 use Rattle.knx_model.specs.declared.frames.cemi.LdataCode.TheVariants.{Req}
 use Rattle.knx_model.specs.declared.frames.ip.IpFrame.TheVariants.{TunnellingRequest}
 use Rattle.knx_model.specs.declared.frames.tpdu.Apdu.TheVariants.{AddressWrite, AddressRead}
-use Rattle.knx_model.specs.declared.frames.tpdu.Tpdu.TheVariants.{Connect}
+use Rattle.knx_model.specs.declared.frames.tpdu.Tpdu.TheVariants.{Connect, Disconnect}
 use Rattle.knx_model.specs.Apdu.{Written}
 use Rattle.knx_model.specs.ApduReading.{apdu_octets}
 use Rattle.line_model.specs.Reading.{datagram_in, ldata_in}
@@ -27,6 +27,7 @@ request group destination tpdu = record { code = Req; error = false; group = gro
 abbrev pub frame_of : IndAddr → Asked → Ldata
 frame_of wanted asked.Read = request true 0 (apdu_octets AddressRead)
 frame_of wanted asked.Connect = request false wanted.raw (Written Connect)
+frame_of wanted asked.Disconnect = request false wanted.raw (Written Disconnect)
 frame_of wanted asked.Write = request true 0 (apdu_octets (AddressWrite wanted))
 
 abbrev pub IsAsked : IndAddr → Ldata → Type 0

@@ -7,6 +7,8 @@ pub enum Asked {
     Read,
     /// A connection to the unit that has the wanted address: T_Connect.
     Connect,
+    /// That connection ends: T_Disconnect.
+    Disconnect,
     /// All units in programming mode take the wanted address: A_IndividualAddress_Write.
     Write,
 }

@@ -9,7 +9,7 @@ ghost use Rattle.knx_model.specs.declared.address.IndAddr.{IndAddr as Address};
 ghost use Rattle.line_model.specs.Record.{Entry};
 ghost use Rattle.line_model.specs.Sendings.{SendsRightly};
 
-/// Over every list of events, the legal ones among them, of a client that puts a read, a T_Connect to the wanted address and a write of it alone: at
+/// Over every list of events, the legal ones among them, of a client that puts a read, a T_Connect and a T_Disconnect to the wanted address and a write of it alone: at
 /// every moment each unit has the address that it began with, or is in programming mode and has the wanted one.
 pub fn units_keep_their_addresses()
     ensures { (wanted : Address) (start : AddressWorld) (events : List AddressEvent) → IsFresh start → PutsOnly wanted (record_of start events) → AlwaysKeepsUnits wanted start events }

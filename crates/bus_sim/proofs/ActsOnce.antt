@@ -9,8 +9,8 @@ use Rattle.line_model.specs.Network.{Sent, OfSent, MayArrive, changed_at, once_m
 use Rattle.line_model.specs.Reading.{datagram_in}
 use Rattle.line_model.specs.Tunnel.{Tunnel, IsConnectRequest, made, puts_next, sends_down_if, sends_up, takes_sent, takes_frame, with_gateway, with_up}
 use Rattle.line_model.specs.World.{World, Send, From, Renew, Up, step}
-use Rattle.line_sim.proofs.Taking.{gateway_leaves}
-use Rattle.line_sim.specs.Gateways.{and_one}
+use Rattle.tunnel_sim.proofs.Taking.{gateway_leaves}
+use Rattle.tunnel_sim.specs.Gateways.{and_one}
 use Rattle.bus_sim.proofs.Grows.{puts_acted, same_length}
 use Rattle.bus_sim.proofs.Repeats.{IsRepeat, Repeats, acts_once, repeats_nothing, still_behind, still_open, still_up, taken_up, changed_there, repeat_open}
 

@@ -65,7 +65,7 @@ pub record Counts (w : World) (e : Event) (address : ℕ) (met : Met) : Type 0 w
 
 one_more : (t : Bool) (n : ℕ) → n < 2 ^ 63 → and_if t n ≡ (if t then suc n else n)
 one_more true n few = omega arith
-one_more false n few = refl
+one_more false n few = omega arith
 
 -- the counts of one device
 here : (m : Met) (s t u v : Bool) (c : DeviceCounts) → s ≡ m.to → t ≡ m.from → u ≡ m.taken → v ≡ m.wrote → c.to < 2 ^ 63 → c.from < 2 ^ 63 → c.taken < 2 ^ 63 → c.writes < 2 ^ 63

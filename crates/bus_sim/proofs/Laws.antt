@@ -7,9 +7,9 @@ use Rattle.line_model.specs.World.{World, Event, replay}
 use Rattle.line_sim.proofs.Allowing.{may_happen}
 use Rattle.line_sim.proofs.Counting.{endpoint_bounded, run_bounded}
 use Rattle.line_sim.specs.Allowed.{Allows}
-use Rattle.line_sim.specs.Gateways.{CanCount}
+use Rattle.tunnel_sim.specs.Gateways.{CanCount}
 use Rattle.line_sim.specs.Line.{LineNow, IsNow, AreCounted}
-use Rattle.line_sim.specs.Tunnels.{greatest_endpoint}
+use Rattle.tunnel_sim.specs.Tunnels.{greatest_endpoint}
 
 pub allowed : (mode : Mode) (n : LineNow) (w : World) (e : Event) → IsNow n w → Allows mode n e → MayHappen mode w e
 allowed mode n w e is allows = may_happen mode n w e is allows

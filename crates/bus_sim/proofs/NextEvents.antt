@@ -17,8 +17,8 @@ use Rattle.line_model.specs.World.{World, Event, Up, Down, LoseUp, LoseDown, Dev
 use Rattle.knx_model.specs.declared.device.Sending.{Sending}
 use Rattle.knx_model.specs.declared.device.Sending.TheVariants.{Repeat, Closing}
 use Rattle.knx_model.specs.DeviceSending.{next_sending}
-use Rattle.line_sim.specs.declared.gateway.Due.TheVariants as due
-use Rattle.line_sim.specs.Gateways.{due_of}
+use Rattle.tunnel_sim.specs.declared.gateway.Due.TheVariants as due
+use Rattle.tunnel_sim.specs.Gateways.{due_of}
 use Rattle.line_sim.specs.Places.{sending_at}
 use Rattle.line_sim.specs.Allowed.{Allows}
 use Rattle.line_sim.specs.Line.{LineNow, IsNow, AreCounted, frame_due}

@@ -10,7 +10,7 @@ use Rattle.line_model.specs.Tunnel as tunnel
 use Rattle.line_model.specs.World.{World, Event, Send, From, Renew, Down, Pass, now, replay}
 use Rattle.bus_sim.specs.declared.beginning.Beginning.{Beginning}
 use Rattle.bus_sim.specs.declared.clients.Clients.TheVariants.{Any}
-use Rattle.bus_sim.specs.declared.turn.Letter.{Letter}
+use Rattle.tunnel_sim.specs.declared.gateway.Letter.{Letter}
 use Rattle.bus_sim.specs.Begun.{mode_of, start_of}
 use Rattle.bus_sim.specs.RunNow.{RunNow, RunState, seen, start, world as world_of}
 use Rattle.bus_sim.specs.Serving.{AddsAll, EndsSettled, GoesOn, Same, More, gave, given}

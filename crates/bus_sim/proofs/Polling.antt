@@ -9,7 +9,7 @@ use Rattle.line_model.specs.Record.{Item, Got, Quiet, got}
 use Rattle.line_model.specs.Tunnel.{Commissions}
 use Rattle.line_model.specs.World.{World, Event, Down, Pass, now, replay}
 use Rattle.bus_sim.specs.declared.clients.Clients.TheVariants.{One}
-use Rattle.bus_sim.specs.declared.turn.Letter.{Letter}
+use Rattle.tunnel_sim.specs.declared.gateway.Letter.{Letter}
 use Rattle.bus_sim.specs.Begun.{mode_of, start_of}
 use Rattle.bus_sim.specs.Polls.{EndedSo, GoesOnFrom, StopsWithin}
 use Rattle.bus_sim.specs.RunNow.{RunNow, RunState, mode, seen, start, story, story_of, time, world as world_of}

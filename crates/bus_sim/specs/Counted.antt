@@ -1,7 +1,8 @@
 -- What a run counts of the devices of its line and of connect requests, beside the counts of the events themselves.
-use Rattle.std.specs.Prelude.{◌≡◌, ℕ, suc, ◌%◌, ◌==◌, Bool, true, false, List, replicate, slice_index_or, slice_set, if◌then◌else◌}
+use Rattle.std.specs.Prelude.{◌≡◌, ℕ, ◌%◌, ◌==◌, Bool, List, replicate, slice_index_or, slice_set, if◌then◌else◌}
 use Rattle.line_model.specs.Counts.{frames_to, frames_from, frames_taken, writes, connects_reached}
 use Rattle.network_sim.specs.Window.{capped}
+use Rattle.tunnel_sim.specs.Gateways.{and_one}
 use Rattle.line_model.specs.StartOf.{line_of}
 use Rattle.line_model.specs.World.{World, Event}
 use Rattle.bus_sim.specs.declared.counts.DeviceCounts.{DeviceCounts}
@@ -28,8 +29,7 @@ counts_at n address = if line_of address == n.line then counts_in n.places (addr
 
 -- a count stands still at the greatest number of 64 bits
 abbrev pub and_if : Bool → ℕ → ℕ
-and_if true n = capped (suc n)
-and_if false n = n
+and_if more n = capped (and_one more n)
 
 abbrev pub and_met : Met → DeviceCounts → DeviceCounts
 and_met m c = record { to = and_if m.to c.to; from = and_if m.from c.from; taken = and_if m.taken c.taken; writes = and_if m.wrote c.writes }

@@ -2,7 +2,7 @@
 use Rattle.std.specs.Prelude.{[], option_to_list}
 use Rattle.line_model.specs.World as world
 use Rattle.line_model.specs.World.{Event}
-use Rattle.line_sim.specs.Tunnels.{at_gateway}
+use Rattle.tunnel_sim.specs.Tunnels.{at_gateway}
 use Rattle.bus_sim.specs.declared.happened.Happened.{Happened}
 use Rattle.bus_sim.specs.declared.happened.Happened.TheVariants as named
 

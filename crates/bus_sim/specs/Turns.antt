@@ -5,7 +5,7 @@ use Rattle.line_model.specs.Legal.{MayHappen}
 use Rattle.line_model.specs.LinkStory.{is_foreign}
 use Rattle.line_model.specs.Network.{OfSent}
 use Rattle.line_model.specs.World.{Event, Down, Pass, now}
-use Rattle.bus_sim.specs.declared.turn.Letter.{Letter}
+use Rattle.tunnel_sim.specs.declared.gateway.Letter.{Letter}
 use Rattle.bus_sim.specs.declared.turn.Turn.{Turn}
 use Rattle.bus_sim.specs.declared.turn.Turn.TheVariants.{Got, Went as HasGone, Passed, Quiet}
 use Rattle.bus_sim.specs.Numbers.{IsNumber}

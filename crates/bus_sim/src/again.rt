@@ -14,8 +14,8 @@ ghost use Rattle.bus_sim.specs.Went.{IsRight, Stays};
 use crate::owed::Owed;
 use crate::reaching::again_down;
 use crate::run::Run;
-use crate::turn::Letter;
 use knx_model::NoMemory;
+use tunnel_sim::Letter;
 
 impl Run {
     /// What the script calls for first.

@@ -101,8 +101,8 @@ impl Run {
         self.line.names();
         let device = frame.destination;
         let comes = comes_to(frame, lost);
-        let taken = both(comes, self.line.would_be_taken());
-        let wrote = both(comes, self.line.would_write().is_some());
+        let taken = comes & self.line.would_be_taken();
+        let wrote = comes & self.line.would_write().is_some();
         let counts = self.counts.of(device);
         let n = counts.to.saturating_add(1);
         let k = counts.taken.saturating_add(1);
@@ -215,10 +215,4 @@ fn comes_to(frame: &Ldata, lost: Option<u16>) -> bool
     ensures { result ≡ (not frame.now.group && not (is_among (option_to_list lost) frame.now.destination)) }
 {
     !frame.group && lost != Some(frame.destination)
-}
-
-fn both(one: bool, other: bool) -> bool
-    ensures { result ≡ (one && other) }
-{
-    one && other
 }

@@ -2,11 +2,12 @@
 
 ghost use Rattle.std.specs.Prelude.{◌≡◌, IfOk, length, replicate};
 ghost use Rattle.line_model.specs.StartOf.{line_of};
-ghost use Rattle.bus_sim.specs.Counted.{added, and_if, connected, counts_at, none_counted, nothing_counted};
+ghost use Rattle.bus_sim.specs.Counted.{added, connected, counts_at, none_counted, nothing_counted};
 
 use knx_model::{IndAddr, NoMemory};
 use std::alloc::Global;
 use std::marker::Model;
+use tunnel_sim::counted;
 
 /// How many devices a line has room for: the device part of an address has eight bits.
 const PLACES: usize = 256;
@@ -114,11 +115,4 @@ fn no_counts(alloc: Global) -> Result<Vec<DeviceCounts>, NoMemory>
     ensures { IfOk result (λ made. made.items ≡ replicate 256 none_counted) }
 {
     Ok(vec![in alloc; NONE; PLACES]?)
-}
-
-/// One more, where there is one.
-fn counted(more: bool, count: u64) -> u64
-    ensures { result ≡ and_if more count }
-{
-    if more { count.saturating_add(1) } else { count }
 }

@@ -13,8 +13,8 @@ use crate::happened::Happened;
 use crate::owed::{Caused, NOTHING};
 use crate::room::make_room;
 use crate::run::Run;
-use crate::turn::Letter;
 use knx_model::NoMemory;
+use tunnel_sim::Letter;
 
 /// How the client's datagram is delivered.
 #[derive(Clone, Copy, Drop)]

@@ -17,9 +17,10 @@ use crate::bus::SimBus;
 use crate::clients::Clients;
 use crate::run::Run;
 use crate::stopped::{Broken, Stopped};
-use knx_model::{IndAddr, List, NoMemory};
+use knx_model::{List, NoMemory};
 use line_model::{LinkFault, Polled, PortFault};
 use std::alloc::Global;
+use tunnel_sim::DEFAULT_TUNNEL;
 
 impl SimBus {
     /// The client sends a datagram. At `Err` nothing has happened.
@@ -120,9 +121,6 @@ pub fn take_run(alloc: Global, run: &mut Option<Run>) -> Result<Run, NoMemory>
         None => begun_empty(alloc),
     }
 }
-
-/// The tunnel's address where there is no project: 1.1.255.
-const DEFAULT_TUNNEL: IndAddr = IndAddr { raw: 0x11FF };
 
 /// A run of a line without devices.
 fn begun_empty(alloc: Global) -> Result<Run, NoMemory>

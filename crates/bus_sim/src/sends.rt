@@ -4,10 +4,10 @@ ghost use Rattle.std.specs.Prelude.{◌≡◌, ◌+◌, ◌≤◌, [], Some, OnO
 ghost use Rattle.knx_model.specs.Connection.{last_time};
 ghost use Rattle.line_model.specs.World.{BusAgain, DevSend, DevRepeat, DevClose, GwRepeat, GwClose, On, Pass, now};
 ghost use Rattle.line_sim.specs.Places.{IsDue};
-ghost use Rattle.line_sim.specs.Tunnels.{at_gateway};
-ghost use Rattle.line_sim.specs.Gateways.{due_of};
+ghost use Rattle.tunnel_sim.specs.Tunnels.{at_gateway};
+ghost use Rattle.tunnel_sim.specs.Gateways.{due_of};
 ghost use Rattle.line_model.specs.Gateway.{gateway_expired};
-ghost use Rattle.line_sim.specs.declared.gateway.Due.TheVariants as due;
+ghost use Rattle.tunnel_sim.specs.declared.gateway.Due.TheVariants as due;
 ghost use Rattle.bus_sim.specs.Went.{Stays, Went, IsRight, world};
 ghost use Rattle.bus_sim.specs.Choices.{heard_so};
 

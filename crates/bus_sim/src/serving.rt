@@ -81,8 +81,8 @@ impl Run {
     fn has_ended(&self, quiet: u8) -> bool
         ensures { (items : List PortItem) → CountsQuiet quiet items → (IsTrue result ↔ HasEnded (world self.now).tunnel.gateway items) }
     {
-        let is_left = both(self.line.made() > 0, !self.line.has_channel());
-        both(quiet == QUIET_TURNS, is_left)
+        let is_left = (self.line.made() > 0) & !self.line.has_channel();
+        (quiet == QUIET_TURNS) & is_left
     }
 
     /// One turn; how many in a row were quiet now, ten where there were more.
@@ -146,10 +146,4 @@ impl Run {
             }
         }
     }
-}
-
-fn both(one: bool, other: bool) -> bool
-    ensures { result ≡ (one && other) }
-{
-    one && other
 }

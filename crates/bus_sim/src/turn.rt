@@ -10,14 +10,8 @@ ghost use Rattle.bus_sim.specs.Went.{Stays, world};
 
 use crate::owed::Owed;
 use crate::run::Run;
-use knx_model::{Datagram, NoMemory};
-
-/// A datagram of the gateway, and the endpoint that it comes to.
-#[derive(Drop)]
-pub struct Letter {
-    pub to: u64,
-    pub octets: Datagram,
-}
+use knx_model::NoMemory;
+use tunnel_sim::Letter;
 
 /// What a turn of the line was.
 #[derive(Drop)]

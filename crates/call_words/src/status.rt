@@ -38,10 +38,20 @@ pub enum Status {
     OpenTurns,
     /// 14: no gateway was found.
     NothingFound,
+    /// 15: no unit is in programming mode.
+    NoUnit,
+    /// 16: several units are.
+    Several,
+    /// 17: a unit has the wanted address.
+    Taken,
+    /// 18: it isn't known whether the unit took the address.
+    Unconfirmed,
+    /// 19: the channel was lost.
+    TunnelLost,
 }
 
 impl Status {
-    /// Its number, 0 to 14.
+    /// Its number, 0 to 19.
     pub fn number(self) -> u8
         ensures { result ≡ status_number self }
     {
@@ -61,6 +71,11 @@ impl Status {
             Status::WrongLine => 12,
             Status::OpenTurns => 13,
             Status::NothingFound => 14,
+            Status::NoUnit => 15,
+            Status::Several => 16,
+            Status::Taken => 17,
+            Status::Unconfirmed => 18,
+            Status::TunnelLost => 19,
         }
     }
 }

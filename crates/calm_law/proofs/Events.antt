@@ -15,7 +15,7 @@ use Rattle.line_model.specs.Gateway.{Nothing, Channel, request_expired, channel_
 use Rattle.line_model.specs.Tunnel.{Tunnel, Renew, Carried, Heard, Pass, after}
 use Rattle.line_model.specs.World.{on_bus}
 use Rattle.line_model.specs.Record.{Entry, Renewed, Quiet, entry}
-use Rattle.line_model.specs.ChannelLost.{is_confirmation, is_unconfirmed}
+use Rattle.line_model.specs.ChannelLost.{is_confirmation, is_confirmation_of, is_unconfirmed}
 use Rattle.line_model.specs.ClientView.{ClientChannel, Fresh, Open, Nothing as NoDeed, deed, after_entry, channel}
 use Rattle.line_model.specs.Renews.{MayLeave, IsOwed, last_beat, to_poll_before}
 use Rattle.line_model.specs.LinkStory.{newest_time}
@@ -26,7 +26,8 @@ use Rattle.calm_law.specs.CalmTunnel.{Confirms, IsIndication, IsSettled}
 use Rattle.calm_law.proofs.Ways.{IsNew, settled}
 use Rattle.calm_law.proofs.Tokens.{Rise, Fall, risen, fallen, read_down}
 use Rattle.calm_law.proofs.Seen.{Seen, IsOpen, seen, up_quiet, lapsed}
-use Rattle.calm_law.proofs.State.{Door, Shut, Knocked, Replied, Ajar, Stage, Rising, Riding, Past, Under, Free, Coming, Owed, Back, Pulse, Calm, Beating, Echo, Nums, makers_at, bus_at, channel_at, the_channel, out_at, owed_at, seen_at, is_con_frame, one_if, cons_in, con_under, awaited, Fits, AllFit, Paced, flies_of, queue_of, Steps, RenewedSo, Early, IsFree, DoorIs, Goes, Going, going, IsPut, tunnel_at}
+use Rattle.calm_law.proofs.Owning.{own_append, own_none}
+use Rattle.calm_law.proofs.State.{Door, Shut, Knocked, Replied, Ajar, Stage, Rising, Riding, Past, Under, Free, Coming, Owed, Back, Pulse, Calm, Beating, Echo, Nums, makers_at, bus_at, channel_at, the_channel, out_at, owed_at, seen_at, is_con_frame, one_if, cons_in, con_under, awaited, AreItsOwn, Fits, AllFit, Paced, flies_of, queue_of, Steps, RenewedSo, Early, IsFree, DoorIs, Goes, Going, going, IsPut, tunnel_at}
 use Rattle.calm_law.proofs.Sends.{MayDo, owed_none}
 use Rattle.calm_law.proofs.Rises.{one_maker}
 use Rattle.calm_law.proofs.Falls.{none_yet}
@@ -128,6 +129,7 @@ module _ (E F : Option Ldata → List Ldata → Type 0) (r : List Entry) (presen
         end_is = refl;
         reads = h.reads;
         counts = h.counts;
+        own = h.own;
         acked = h.acked;
         fits = h.fits;
         heard = h.heard;
@@ -163,6 +165,7 @@ module _ (E F : Option Ldata → List Ldata → Type 0) (r : List Entry) (presen
         end_is = h.end_is;
         reads = h.reads;
         counts = (let a = h.counts in let b = cons_append waiting frames in let c = no_cons frames all in omega (arith, a, b, c));
+        own = (h.own.0, subst (AreItsOwn m.last) (queue_more under waiting frames) (own_append m.last (queue_of under waiting) frames h.own.1 (own_none m.last frames (no_cons frames all))));
         acked = h.acked;
         fits = fit_append waiting frames h.fits (all_fit frames all);
         heard = h.heard;
@@ -180,9 +183,9 @@ module _ (E F : Option Ldata → List Ldata → Type 0) (r : List Entry) (presen
   past_door Replied f b under pulse m downs d = absurd (let e : Riding f b ≡ Past false = d.1.stage_is in cc)
   past_door (Ajar leaves) f b under pulse m downs d = d
 
-  carried_by : (door : Door) (f : Ldata) (b : Bool) (under : Under) (pulse : Pulse) (m : Nums) (ups : List Rise) (downs : List Fall) → Now door (Riding f b) under pulse m ups downs → (con : Ldata) → is_con_frame con ≡ true → Fits con → ((q : List Ldata) → E (Some f) q → F None (q ++ con ∷ []))
+  carried_by : (door : Door) (f : Ldata) (b : Bool) (under : Under) (pulse : Pulse) (m : Nums) (ups : List Rise) (downs : List Fall) → Now door (Riding f b) under pulse m ups downs → (con : Ldata) → is_con_frame con ≡ true → is_confirmation_of (Some f) (ldata_in (cemi_octets con)) ≡ true → Fits con → ((q : List Ldata) → E (Some f) q → F None (q ++ con ∷ []))
       → Going F r (after (here door (Riding f b) under m) (Carried con))
-  carried_by door f b under pulse m ups downs h con is fits to =
+  carried_by door f b under pulse m ups downs h con is its fits to =
       going F door (Past b) under pulse m ups downs r present up down me (waiting ++ con ∷ []) acted puts now
       (record {
         rising = h.rising;
@@ -194,6 +197,7 @@ module _ (E F : Option Ldata → List Ldata → Type 0) (r : List Entry) (presen
         end_is = h.end_is;
         reads = tt;
         counts = (let a : awaited m.confirmed ≡ 1 + (con_under under + cons_in waiting) = h.counts in let c : one_if (is_con_frame con) ≡ 1 = ap one_if is in let d = cons_append waiting (con ∷ []) in omega (arith, a, c, d));
+        own = (tt, subst (AreItsOwn m.last) (queue_more under waiting (con ∷ [])) (own_append m.last (queue_of under waiting) (con ∷ []) h.own.1 (λ z. ap (λ o. is_confirmation_of o (ldata_in (cemi_octets con))) h.own.0 ∙ its, tt)));
         acked = h.acked;
         fits = fit_append waiting (con ∷ []) h.fits (fits, tt);
         heard = h.heard;
@@ -205,13 +209,13 @@ module _ (E F : Option Ldata → List Ldata → Type 0) (r : List Entry) (presen
 
   -- its frame read, so its confirmation is read as one
   pub carried_kept : (door : Door) (stage : Stage) (under : Under) (pulse : Pulse) (m : Nums) (ups : List Rise) (downs : List Fall) → Now door stage under pulse m ups downs → (con : Ldata) → Confirms me (bus_at stage) con → ((g : Ldata) (q : List Ldata) → bus_at stage ≡ g ∷ [] → E (Some g) q → F None (q ++ con ∷ []))
-      → ((cemi : List ℕ) (f : Ldata) (error : Bool) → ldata_in cemi ≡ Some f → (is_con_frame (record (on_bus me f) { code = Con; error = error }) ≡ true) × Fits (record (on_bus me f) { code = Con; error = error }))
+      → ((cemi : List ℕ) (f : Ldata) (error : Bool) → ldata_in cemi ≡ Some f → (is_con_frame (record (on_bus me f) { code = Con; error = error }) ≡ true) × (is_confirmation_of (Some f) (ldata_in (cemi_octets (record (on_bus me f) { code = Con; error = error }))) ≡ true) × Fits (record (on_bus me f) { code = Con; error = error }))
       → Going F r (after (here door stage under m) (Carried con))
   carried_kept door (Rising cemi f) under pulse m ups downs h con is to reads = absurd is
   carried_kept door (Past b) under pulse m ups downs h con is to reads = absurd is
   carried_kept door (Riding f b) under pulse m ups downs h con is to reads =
       let it = reads h.reads.0 f is.0 h.reads.1 in
-      subst (λ z. Going F r (after (here door (Riding f b) under m) (Carried z))) (sym is.1) (carried_by door f b under pulse m ups downs h (record (on_bus me f) { code = Con; error = is.0 }) it.0 it.1 (λ q e. subst (λ z. F None (q ++ z ∷ [])) is.1 (to f q refl e)))
+      subst (λ z. Going F r (after (here door (Riding f b) under m) (Carried z))) (sym is.1) (carried_by door f b under pulse m ups downs h (record (on_bus me f) { code = Con; error = is.0 }) it.0 it.1 it.2 (λ q e. subst (λ z. F None (q ++ z ∷ [])) is.1 (to f q refl e)))
 
   -- ---- time passes
 
@@ -286,11 +290,12 @@ module _ (E F : Option Ldata → List Ldata → Type 0) (r : List Entry) (presen
             falling = h.falling;
             ups_are = h.ups_are;
             downs_are = h.downs_are;
-            door_is = (fresh_quiet r (now + ms) h.door_is.0, h.door_is.1, record { stage_is = refl; pulse_is = refl; own_is = e.own_is; put_is = e.put_is; acked_is = e.acked_is; confirmed_is = e.confirmed_is; heard_is = refl }, tt);
+            door_is = (fresh_quiet r (now + ms) h.door_is.0, h.door_is.1, record { stage_is = refl; pulse_is = refl; own_is = e.own_is; put_is = e.put_is; acked_is = e.acked_is; confirmed_is = e.confirmed_is; last_is = e.last_is; heard_is = refl }, tt);
             owed_is = owed_none (channel r) (channel (x ∷ r)) x refl;
             end_is = refl;
             reads = tt;
             counts = h.counts;
+            own = h.own;
             acked = inl e.confirmed_is;
             fits = h.fits;
             heard = omega arith;
@@ -318,6 +323,7 @@ module _ (E F : Option Ldata → List Ldata → Type 0) (r : List Entry) (presen
                 end_is = refl;
                 reads = tt;
                 counts = h.counts;
+                own = h.own;
                 acked = inl con;
                 fits = h.fits;
                 heard = (let a : m.beat ≤ m.heard = h.beat in omega (arith, a, near));

@@ -8,19 +8,20 @@ use Rattle.knx_model.specs.declared.frames.ip.IpFrame.{IpFrame}
 use Rattle.knx_model.specs.declared.frames.ip.IpFrame.TheVariants.{ConnectResponse, StateResponse, TunnellingRequest, TunnellingAck}
 use Rattle.knx_model.specs.Cemi.{Written as cemi_octets}
 use Rattle.knx_model.specs.Connection.{has_passed}
-use Rattle.line_model.specs.Reading.{request_in, disconnect_request_in}
+use Rattle.line_model.specs.Reading.{ldata_in, request_in, disconnect_request_in}
 use Rattle.line_model.specs.Network.{Sent, changed_at, once_more}
 use Rattle.line_model.specs.Gateway.{next_number}
 use Rattle.line_model.specs.Tunnel.{Tunnel, Down as Arrives, after}
 use Rattle.line_model.specs.Record.{Entry, Item, Got, entry, got, got_in}
-use Rattle.line_model.specs.ChannelLost.{expected, is_given_up, is_unconfirmed, is_dead, is_lost}
-use Rattle.line_model.specs.ClientView.{ClientChannel, Sought, Open, Deed, Takes, Loses, Nothing, deed, deed_in, after_entry, channel}
+use Rattle.line_model.specs.ChannelLost.{expected, last_frame, is_given_up, is_unconfirmed, is_dead, is_lost}
+use Rattle.line_model.specs.ClientView.{ClientChannel, Sought, Open, Deed, Takes, Loses, Nothing, as_counted, counts, deed, deed_in, after_entry, channel}
 use Rattle.line_model.specs.Renews.{owed, owed_in, calls_for, IsOwed}
 use Rattle.line_model.specs.Deliveries.{is_under_way}
 use Rattle.calm_law.specs.CalmTunnel.{next_down}
 use Rattle.calm_law.proofs.Ways.{Way, Took, taken, none_left}
 use Rattle.calm_law.proofs.Tokens.{Rise, Fall, Made, Ack, Note, Alive, Left, Downs, fallen, read_down, made_of, ack_of, note_of, alive_of, left_of, same_last, only_last, not_last, downs_none}
 use Rattle.calm_law.proofs.Seen.{Seen, IsOpen, Up, seen, seen_after, lapsed, ended, not_lost, up_got, and_no, neither}
+use Rattle.calm_law.proofs.Owning.{own_counts, same_con}
 use Rattle.calm_law.proofs.State.{Door, Shut, Knocked, Replied, Ajar, Stage, Rising, Riding, Past, Under, Free, Coming, Owed, Back, Pulse, Calm, Beating, Echo, Nums, acks_at, notes_at, alives_at, ack_if, makers_at, owed_at, sent_at, taken_at, beating_at, seen_at, is_con_frame, one_if, awaited, flies, cons_in, Paced, flies_of, queue_of, Steps, Early, IsFree, IsUnseen, Opens, Goes, Going, going, tunnel_at}
 use Rattle.calm_law.proofs.Sends.{MayDo, not_yet}
 use Rattle.calm_law.proofs.Rises.{comes, downs_short, one_maker}
@@ -69,7 +70,7 @@ module _ {mades acks alives lefts : List ℕ} {notes : List (ℕ × List ℕ)} (
       }
 
 -- the last of a list is one
-last_same : (l k : List Fall) (x y : Fall) → l ++ x ∷ [] ≡ k ++ y ∷ [] → x ≡ y
+pub last_same : (l k : List Fall) (x y : Fall) → l ++ x ∷ [] ≡ k ++ y ∷ [] → x ≡ y
 last_same [] [] x y e = cc
 last_same [] (b ∷ []) x y e = absurd (let g : [] ≡ y ∷ [] = cc in cc)
 last_same [] (b ∷ c ∷ k) x y e = absurd (let g : [] ≡ c ∷ (k ++ y ∷ []) = cc in cc)
@@ -162,11 +163,13 @@ module _ (r : List Entry) (octets : List ℕ) (present : ℕ) (up down down' : L
 
   plain_got : (l : List Entry) (f : IpFrame) → is_lost 1 l x ≡ false → read_down octets ≡ Some f → request_in (Some f) ≡ None → deed (Open 1 l) x ≡ Nothing
   unfolding deed
-  plain_got l f lost d e = kept_deed (is_lost 1 l x) (deed_in 1 l x) lost ∙ (let g : deed_in 1 l x ≡ Nothing = rw d (rw e refl) in g)
+  plain_got l f lost d e = kept_deed (is_lost 1 l x) (as_counted (last_frame 1 l) (deed_in 1 l x)) lost ∙ (let g : deed_in 1 l x ≡ Nothing = rw d (rw e refl) in ap (as_counted (last_frame 1 l)) g)
 
-  takes_got : (l : List Entry) (o : ℕ) (cemi : List ℕ) → is_lost 1 l x ≡ false → read_down octets ≡ Some (TunnellingRequest 1 o cemi) → expected 1 l ≡ o → deed (Open 1 l) x ≡ Takes cemi
+  takes_got : (l : List Entry) (o : ℕ) (cemi : List ℕ) → is_lost 1 l x ≡ false → read_down octets ≡ Some (TunnellingRequest 1 o cemi) → expected 1 l ≡ o → counts (last_frame 1 l) (ldata_in cemi) ≡ true → deed (Open 1 l) x ≡ Takes cemi
   unfolding deed
-  takes_got l o cemi lost d e = kept_deed (is_lost 1 l x) (deed_in 1 l x) lost ∙ (let g : deed_in 1 l x ≡ Takes cemi = rw d (rw (e, eq-eqb o o refl) refl) in g)
+  takes_got l o cemi lost d e counted =
+      kept_deed (is_lost 1 l x) (as_counted (last_frame 1 l) (deed_in 1 l x)) lost
+      ∙ (let g : deed_in 1 l x ≡ Takes cemi = rw d (rw (e, eq-eqb o o refl) refl) in ap (as_counted (last_frame 1 l)) g) ∙ ap (λ b. cond {A = Deed} b (Takes cemi) Nothing) counted
 
   lost_not : (leaves : Bool) (stage : Stage) (under : Under) (pulse : Pulse) (m : Nums) (ups : List Rise) (downs : List Fall) (f : IpFrame) → (h : Here (Ajar leaves) stage under pulse m ups downs) → read_down octets ≡ Some f
       → ((left : Bool) → ended (seen_at stage under pulse m now) left now (Some f) ≡ false) → is_lost 1 (h.door_is.open_.first ∷ h.door_is.open_.rest) x ≡ false
@@ -183,9 +186,9 @@ module _ (r : List Entry) (octets : List ℕ) (present : ℕ) (up down down' : L
   sought_then c t e d = rw (e, not_passed 9999 now, d) refl
 
   abbrev seen_one : Option IpFrame → Seen
-  seen_one g = seen_after (record { own = record { number = 0; sent = [] }; acked = None; confirmed = true; expected = 0; beats = []; beat = now }) now None g
+  seen_one g = seen_after (record { own = record { number = 0; sent = [] }; acked = None; confirmed = true; last = None; expected = 0; beats = []; beat = now }) now None g
 
-  seen_first : (t : Option IndAddr) → read_down octets ≡ Some (ConnectResponse 1 0 t) → seen (x ∷ []) ≡ record { own = record { number = 0; sent = [] }; acked = None; confirmed = true; expected = 0; beats = []; beat = now }
+  seen_first : (t : Option IndAddr) → read_down octets ≡ Some (ConnectResponse 1 0 t) → seen (x ∷ []) ≡ record { own = record { number = 0; sent = [] }; acked = None; confirmed = true; last = None; expected = 0; beats = []; beat = now }
   seen_first t d = ap seen_one d
 
   unseen_taken : (o : ℕ) (under : Under) → IsUnseen under → taken_at o under ≡ o
@@ -208,7 +211,7 @@ module _ (r : List Entry) (octets : List ℕ) (present : ℕ) (up down down' : L
       let e : Early (Past false) Calm m now = h.door_is.1 in
       let is : channel (x ∷ r) ≡ Open 1 (x ∷ []) = sought_then (channel r) t h.door_is.0.is d in
       let taken_is : taken_at m.put under ≡ 0 = unseen_taken m.put under h.door_is.2 ∙ e.put_is in
-      let says : seen (x ∷ []) ≡ seen_at (Past false) under Calm (record m { beat = now }) now = seen_first t d ∙ sym (normal m.own (taken_at m.put under) m.acked m.confirmed e.own_is taken_is e.acked_is e.confirmed_is) in
+      let says : seen (x ∷ []) ≡ seen_at (Past false) under Calm (record m { beat = now }) now = seen_first t d ∙ sym (normal m.own (taken_at m.put under) m.acked m.confirmed m.last e.own_is taken_is e.acked_is e.confirmed_is e.last_is) in
       let u : Up false (x ∷ r) present (seen_at (Past false) under Calm (record m { beat = now }) now) = record { open_ = record { first = x; rest = []; is = is; says = says }; asks = tt; renewed = h.door_is.0.renewed; at = h.door_is.0.at } in
       let n : m.heard ≡ now = e.heard_is in
       going F (Ajar false) (Past false) under Calm (record m { beat = now }) ups before (x ∷ r) present up down' me waiting acted puts now
@@ -222,6 +225,7 @@ module _ (r : List Entry) (octets : List ℕ) (present : ℕ) (up down down' : L
         end_is = ap disconnect_request_in d;
         reads = tt;
         counts = h.counts;
+        own = h.own;
         acked = h.acked;
         fits = h.fits;
         heard = h.heard;
@@ -231,10 +235,10 @@ module _ (r : List Entry) (octets : List ℕ) (present : ℕ) (up down down' : L
         rides = calmly (ap (λ c. deed c x) h.door_is.0.is ∙ sought_deed now) None (queue_of under waiting) h.rides;
       })
     where
-      normal : (own taken : ℕ) (acked : Option ℕ) (confirmed : Bool) → own ≡ 0 → taken ≡ 0 → acked ≡ None → confirmed ≡ true
-          → ◌≡◌ {A = Seen} (record { own = record { number = own; sent = [] }; acked = acked; confirmed = confirmed; expected = taken; beats = []; beat = now })
-          (record { own = record { number = 0; sent = [] }; acked = None; confirmed = true; expected = 0; beats = []; beat = now })
-      normal own taken acked confirmed a b c e = rw (a, b, c, e) refl
+      normal : (own taken : ℕ) (acked : Option ℕ) (confirmed : Bool) (last : Option Ldata) → own ≡ 0 → taken ≡ 0 → acked ≡ None → confirmed ≡ true → last ≡ None
+          → ◌≡◌ {A = Seen} (record { own = record { number = own; sent = [] }; acked = acked; confirmed = confirmed; last = last; expected = taken; beats = []; beat = now })
+          (record { own = record { number = 0; sent = [] }; acked = None; confirmed = true; last = None; expected = 0; beats = []; beat = now })
+      normal own taken acked confirmed last a b c e f = rw (a, b, c, e, f) refl
 
   -- ---- in the open channel
 
@@ -273,6 +277,7 @@ module _ (r : List Entry) (octets : List ℕ) (present : ℕ) (up down down' : L
         end_is = ap disconnect_request_in d;
         reads = h.reads;
         counts = h.counts;
+        own = h.own;
         acked = inr (inr refl);
         fits = h.fits;
         heard = h.heard;
@@ -297,6 +302,7 @@ module _ (r : List Entry) (octets : List ℕ) (present : ℕ) (up down down' : L
         end_is = ap disconnect_request_in d;
         reads = h.reads;
         counts = h.counts;
+        own = h.own;
         acked = inr (inr refl);
         fits = h.fits;
         heard = h.heard;
@@ -328,6 +334,7 @@ module _ (r : List Entry) (octets : List ℕ) (present : ℕ) (up down down' : L
         end_is = ap disconnect_request_in d;
         reads = h.reads;
         counts = h.counts;
+        own = h.own;
         acked = h.acked;
         fits = h.fits;
         heard = h.heard;
@@ -371,7 +378,7 @@ module _ (r : List Entry) (octets : List ℕ) (present : ℕ) (up down down' : L
       let d2 : read_down octets ≡ Some (TunnellingRequest 1 m.put (cemi_octets y)) = d ∙ ap (λ z. Some (TunnellingRequest 1 z cemi)) n_is ∙ ap (λ z. Some (TunnellingRequest 1 m.put z)) cemi_is in
       let next : Nums = record m { confirmed = or_con (is_con_frame y) m.confirmed } in
       let u : Up leaves (x ∷ r) present (seen_at stage (Owed y) pulse next now)
-      = still_up leaves stage (Coming y) pulse m ups (before ++ Note n cemi ∷ []) (TunnellingRequest 1 m.put (cemi_octets y)) (seen_at stage (Owed y) pulse next now) h d2 (λ left. and_no left) (rw (eq-eqb m.put m.put refl) refl) in
+      = still_up leaves stage (Coming y) pulse m ups (before ++ Note n cemi ∷ []) (TunnellingRequest 1 m.put (cemi_octets y)) (seen_at stage (Owed y) pulse next now) h d2 (λ left. and_no left) (rw (eq-eqb m.put m.put refl, same_con m.last y h.own.1.0) refl) in
       let l : List Entry = h.door_is.open_.first ∷ h.door_is.open_.rest in
       let exp : expected 1 l ≡ m.put = ap (λ (s : Seen). s.expected) h.door_is.open_.says in
       going F (Ajar leaves) stage (Owed y) pulse next ups before (x ∷ r) present up down' me waiting acted puts now
@@ -385,6 +392,7 @@ module _ (r : List Entry) (octets : List ℕ) (present : ℕ) (up down down' : L
         end_is = ap disconnect_request_in d2;
         reads = h.reads;
         counts = con_counts (is_con_frame y) m.confirmed (flies stage) (cons_in waiting) h.counts;
+        own = (h.own.0, h.own.1.1);
         acked = con_acked (is_con_frame y) m.confirmed m.acked h.acked;
         fits = h.fits;
         heard = h.heard;
@@ -392,7 +400,7 @@ module _ (r : List Entry) (octets : List ℕ) (present : ℕ) (up down down' : L
         beat = h.beat;
         pace = paced_got r (take 512 octets) now h.pace;
         rides = (let lost = lost_not leaves stage (Coming y) pulse m ups (before ++ Note n cemi ∷ []) (TunnellingRequest 1 m.put (cemi_octets y)) h d2 (λ left. and_no left) in
-            let s : Steps E F (Takes (cemi_octets y)) = subst (λ z. Steps E F z) (ap (λ c. deed c x) h.door_is.open_.is ∙ takes_got l m.put (cemi_octets y) lost d2 exp) to in
+            let s : Steps E F (Takes (cemi_octets y)) = subst (λ z. Steps E F z) (ap (λ c. deed c x) h.door_is.open_.is ∙ takes_got l m.put (cemi_octets y) lost d2 exp (ap (λ (z : Seen). counts z.last (ldata_in (cemi_octets y))) h.door_is.open_.says ∙ own_counts m.last y h.own.1.0)) to in
             s (flies_of stage) y waiting refl h.rides);
       })
     where

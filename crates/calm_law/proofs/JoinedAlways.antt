@@ -24,7 +24,8 @@ use Rattle.calm_law.proofs.Law.{Inv, May, step_kept, begins}
 use Rattle.calm_law.proofs.OnLine.{event_calm}
 use Rattle.calm_law.proofs.Moves.{step_same}
 use Rattle.calm_law.proofs.Phases.{Rests, items_of}
-use Rattle.calm_law.proofs.Rows.{Devices, Row}
+use Rattle.calm_law.proofs.Rows.{Devices, Row, Willing}
+use Rattle.calm_law.proofs.Spending.{nothing_spent}
 use Rattle.calm_law.proofs.Held.{HeldJob, AreUpto}
 use Rattle.calm_law.proofs.Sessions.{Whole}
 use Rattle.calm_law.proofs.Joined.{step_now}
@@ -55,7 +56,7 @@ module _ (jobs : List Job) (then : ℕ → Devices) where
         phase = Rests;
         flies = refl;
         line = record { attempts_are = refl; stream_is = ap items_of rest.nothing_unsent; connection_is = rest.unconnected; good = tt; numbers = (omega (arith), omega (arith)) };
-        books = inl (refl, refl);
+        books = nothing_spent (Willing Over None) a Over 0 0 (inl (refl, refl));
         wants = λ zero w. tt;
         address = rest.named;
         power = power a d is;

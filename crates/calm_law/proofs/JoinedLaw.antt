@@ -1,5 +1,5 @@
 -- On a calm line whose client is safe and loses no time, time passes only where nothing is awaited and no job has begun, and nothing fails.
-use Rattle.std.proofs.Common.{◌≡◌, ◌≢◌, ◌⊎◌, ℕ, zero, suc, ◌+◌, ◌-◌, ◌<◌, ◌≤◌, List, [], ◌∷◌, ◌++◌, length, Bool, true, false, cond, Option, Some, None, refl, sym, ◌∙◌, ap, subst, arith, inl, inr, drop, length-append}
+use Rattle.std.proofs.Common.{◌≡◌, ◌≢◌, ◌⊎◌, ℕ, zero, suc, ◌+◌, ◌*◌, ◌-◌, ◌<◌, ◌≤◌, List, [], ◌∷◌, ◌++◌, length, Bool, true, false, cond, Option, Some, None, refl, sym, ◌∙◌, ap, subst, arith, inl, inr, drop, length-append}
 use Rattle.std.specs.Prelude.{◌==◌, slice_get}
 use Rattle.std.specs.List.{AllByRecursion}
 use Rattle.std.proofs.lemmas.Bool.{lt-ltb}
@@ -48,7 +48,7 @@ use Rattle.calm_law.proofs.State.{lives_over, Ridden, ridden}
 use Rattle.calm_law.proofs.Sends.{MayDo}
 use Rattle.calm_law.proofs.Law.{Inv, May, Keeps, may_of, idle_of, lives_rides, kept_of}
 use Rattle.calm_law.proofs.Ends.{parted_pass}
-use Rattle.calm_law.proofs.OnLine.{owned, event_calm, none_fails_on_line}
+use Rattle.calm_law.proofs.OnLine.{come_on_line, owned, event_calm, none_fails_on_line}
 use Rattle.calm_law.proofs.Joined.{step_now, fresh_before}
 use Rattle.calm_law.proofs.Held.{HeldJob, before_in, held_before, after, AreUpto, moments_upto, upto_next, first_moments, all_before, next_moment}
 use Rattle.calm_law.proofs.Finished.{asked_or_not, WhereAsked, asked_more, finished_stays, none_held, none_next, signs_not, NotLost, lost_after, put_not_lost, lost_deed, none_between}
@@ -59,7 +59,11 @@ use Rattle.calm_law.proofs.Logged.{ends_at_rest, entry_whole}
 use Rattle.calm_law.proofs.Refused.{refused_not}
 use Rattle.calm_law.proofs.Ended.{end_well}
 use Rattle.calm_law.specs.CalmChecks.{ChecksExactly, HaveOneImage, IsAnsweredRightly}
+use Rattle.calm_law.specs.CalmCounts.{AllCost, BringsSo, ComeForJobs, CostsAtMost, EachBrings, EachHeard, HeardSo, brought, frames_taken, group_requests, requests_put, strangers}
 use Rattle.calm_law.specs.CalmEnds.{EndWell}
+use Rattle.calm_law.proofs.Spending.{spent_within}
+use Rattle.calm_law.proofs.Hearing.{hears, heard_if_noted}
+use Rattle.calm_law.proofs.Sharing.{Shared, shared_all, shared_first, shared_logged, shared_more}
 use Rattle.calm_law.proofs.Checked.{checks_exactly}
 use Rattle.calm_law.proofs.Rows.{Devices, Willing}
 use Rattle.calm_law.proofs.Books.{tried}
@@ -155,6 +159,8 @@ module _ (jobs : List Job) (turns : List GroupTurn) (start : World) (served : (k
     finished : WhereAsked jobs turns older (entries places)
     fails_not : NothingFailed older
     refuses : RefusesRightly jobs start events older
+    brings : EachBrings jobs full older
+    shared : (cost : ℕ) → AllCost jobs cost → Shared jobs start older places (cost + 4)
 
   abbrev AllThere : World → Type 0
   AllThere w = (a : ℕ) → start.devices a ≢ None → w.devices a ≢ None
@@ -252,6 +258,41 @@ module _ (jobs : List Job) (turns : List GroupTurn) (start : World) (served : (k
     refuses_all older e at (Sent k) is goes finished ends_ told = tt
     refuses_all older e at (LostTurn k) is goes finished ends_ told = tt
 
+    -- a job that is held brought no more than its plan costs
+    held_brings : (older : List LogEntry) → Goes jobs then w older places → WhereAsked jobs turns older (entries places) → (k worker since cost : ℕ) (job : Job) → job_of jobs k ≡ Some job → state_of k older ≡ Held worker since → CostsAtMost job.plan cost → brought job.device.raw (after since (moments places)) ≤ cost + 4
+    held_brings older (inr (inl p)) finished = λ k worker since cost job there_is held costs. absurd (none_held jobs turns older k worker since job (finished p.up.asks.1) there_is held)
+    held_brings older (inr (inr g)) finished = λ k worker since cost job there_is held costs. absurd (none_held jobs turns older k worker since job (finished g.asked) there_is held)
+    held_brings older (inl l) finished = λ k worker since cost job there_is held costs. of_device k worker since cost job there_is held costs (w.devices job.device.raw) refl where
+      x : Ridden (Whole jobs then (me w) older places w.devices w.tunnel.now)
+      x = ridden (Whole jobs then (me w) older places w.devices w.tunnel.now) (entries places) w.tunnel l
+
+      of_device : (k worker since cost : ℕ) (job : Job) → job_of jobs k ≡ Some job → state_of k older ≡ Held worker since → CostsAtMost job.plan cost → (o : Option DeviceState) → w.devices job.device.raw ≡ o → brought job.device.raw (after since (moments places)) ≤ cost + 4
+      of_device k worker since cost job there_is held costs None is = absurd (there job.device.raw (on_line k job there_is) is)
+      of_device k worker since cost job there_is held costs (Some d) is =
+          let a : ℕ = job.device.raw in
+          let h : HeldJob jobs older a = record { number = k; job = job; worker = worker; since = since; there = there_is; of_device = refl; held = held } in
+          let row = x.so.riders.rows a d is in
+          let costs_it : CostsAtMost (x.so.plans a) cost = subst (λ z. CostsAtMost z cost) (sym (x.so.held a h).plan_is) costs in
+          subst (λ z. brought a z ≤ cost + 4) (x.so.held a h).since_is (spent_within (Willing (x.so.plans a) (x.so.olds a)) a (x.so.plans a) row.k row.n row.e row.phase (x.so.since a) row.books cost costs_it)
+
+    -- a job that ends brought what its plan costs
+    brings_so : (older : List LogEntry) (e : LogEntry) → e.at ≡ n → Goes jobs then w older places → WhereAsked jobs turns older (entries places) → BringsSo jobs full older e
+    brings_so older e at (inr (inl p)) finished = λ k worker since cost job ends there_is held costs. absurd (none_held jobs turns older k worker since job (finished p.up.asks.1) there_is held)
+    brings_so older e at (inr (inr g)) finished = λ k worker since cost job ends there_is held costs. absurd (none_held jobs turns older k worker since job (finished g.asked) there_is held)
+    brings_so older e at (inl l) finished = λ k worker since cost job ends there_is held costs. by_device k worker since cost job there_is held costs (w.devices job.device.raw) refl where
+      x : Ridden (Whole jobs then (me w) older places w.devices w.tunnel.now)
+      x = ridden (Whole jobs then (me w) older places w.devices w.tunnel.now) (entries places) w.tunnel l
+
+      by_device : (k worker since cost : ℕ) (job : Job) → job_of jobs k ≡ Some job → state_of k older ≡ Held worker since → CostsAtMost job.plan cost → (o : Option DeviceState) → w.devices job.device.raw ≡ o → brought job.device.raw (between since e.at (moments full)) ≤ cost + 4
+      by_device k worker since cost job there_is held costs None is = absurd (there job.device.raw (on_line k job there_is) is)
+      by_device k worker since cost job there_is held costs (Some d) is =
+          let a : ℕ = job.device.raw in
+          let h : HeldJob jobs older a = record { number = k; job = job; worker = worker; since = since; there = there_is; of_device = refl; held = held } in
+          let row = x.so.riders.rows a d is in
+          let l_is : between since e.at (moments full) ≡ x.so.since a = ap (λ z. between since z (moments full)) at ∙ link since ∙ sym (x.so.held a h).since_is in
+          let costs_it : CostsAtMost (x.so.plans a) cost = subst (λ z. CostsAtMost z cost) (sym (x.so.held a h).plan_is) costs in
+          subst (λ z. brought a z ≤ cost + 4) (sym l_is) (spent_within (Willing (x.so.plans a) (x.so.olds a)) a (x.so.plans a) row.k row.n row.e row.phase (x.so.since a) row.books cost costs_it)
+
     entry_so : (newer older : List LogEntry) (e : LogEntry) → log ≡ newer ++ e ∷ older → e.at ≡ n → So w places older → So w places (e ∷ older)
     entry_so newer older e whole at s =
         let form_e : IsLog jobs turns (length events) (e ∷ older) = form_at jobs turns (length events) newer (e ∷ older) (subst (IsLog jobs turns (length events)) whole form) in
@@ -265,6 +306,8 @@ module _ (jobs : List Job) (turns : List GroupTurn) (start : World) (served : (k
           finished = λ asked. finished_stays jobs turns e older may (s.finished asked);
           fails_not = (fails_not older e.at at e.worker e.what s.goes s.finished may true_e.0, s.fails_not);
           refuses = (refuses_all older e at e.what refl s.goes s.finished ends_e.0 true_e.0, s.refuses);
+          brings = (brings_so older e at s.goes s.finished, s.brings);
+          shared = λ cost costs. shared_logged jobs turns start places (cost + 4) n (length events) upto older e at form_e (s.shared cost costs) (λ k worker since job there_is held. held_brings older s.goes s.finished k worker since cost job there_is held (costs k job there_is));
         }
 
   -- ---- an event
@@ -277,6 +320,7 @@ module _ (jobs : List Job) (turns : List GroupTurn) (start : World) (served : (k
     capable : (a : ℕ) (d : DeviceState) → (replay start past).devices a ≡ Some d → HasCapacities d.kept
     kept : StaysOpen (entries (placed start past)) → Every NotLost (moments (placed start past))
     idly : PassesIdly jobs start log past
+    heard : EachHeard jobs start log (placed start past)
 
   -- the log entries of a moment
   module _ (newer past : List Event) (whole : events ≡ newer ++ past) where
@@ -304,7 +348,7 @@ module _ (jobs : List Job) (turns : List GroupTurn) (start : World) (served : (k
 
   begins : (newer : List Event) → events ≡ newer ++ [] → Stands []
   begins newer whole =
-      let first : So start [] [] = record { goes = goes_first jobs then start f power; finished = λ asked. absurd (asked tt); fails_not = tt; refuses = tt } in
+      let first : So start [] [] = record { goes = goes_first jobs then start f power; finished = λ asked. absurd (asked tt); fails_not = tt; refuses = tt; brings = tt; shared = λ cost costs. shared_first jobs start (cost + 4) } in
       record {
         so = logged newer [] whole (λ a h. h) (λ s. tt) (subst (So start []) (sym (none_before log)) first);
         newest = sym (ap (λ (z : Tunnel). z.now) f.tunnel);
@@ -312,6 +356,7 @@ module _ (jobs : List Job) (turns : List GroupTurn) (start : World) (served : (k
         capable = λ a d is. (f.devices a d is).capacities;
         kept = λ s. tt;
         idly = tt;
+        heard = tt;
       }
 
   module _ (past : List Event) (s : Stands past) where
@@ -440,6 +485,12 @@ module _ (jobs : List Job) (turns : List GroupTurn) (start : World) (served : (k
     idle_at (Cut device) c may so = tt
     idle_at (On device) c may so = tt
 
+    shared_on : (now : ℕ) (o : Option Item) → IsSo jobs turns log (placed_if (suc m) now o places) → ((item : Item) → o ≡ Some item → HeardSo jobs start now_log places (record { at = suc m; what = entry item now })) → (cost : ℕ)
+        → Shared jobs start now_log places (cost + 4) → Shared jobs start now_log (placed_if (suc m) now o places) (cost + 4)
+    shared_on now None so heard_at cost shared = shared
+    shared_on now (Some item) so heard_at cost shared =
+        shared_more jobs turns start now_log places (cost + 4) m (record { at = suc m; what = entry item now }) refl (moments_upto start past) (λ k worker since job there held. held_before k m worker since log held) shared so.asks.0 (heard_at item refl)
+
     -- ---- so it stands after the event
 
     stands_on : (newer : List Event) (e : Event) → events ≡ newer ++ e ∷ past → IsLegal Commissions start (e ∷ past) → line.AreCalm start (e ∷ past) → AreShort start (e ∷ past) → IsSo jobs turns log (placed start (e ∷ past)) → Stands (e ∷ past)
@@ -460,7 +511,9 @@ module _ (jobs : List Job) (turns : List GroupTurn) (start : World) (served : (k
         = goes_on jobs then turns start served on_line m now_log places (moments_upto start past) (upto_next start past) early w e s.so.goes s.capable s.newest own calm.0 short.0 legal.0 may (asks_on (tunnel.after t te).now o so_after) (times e calm.0 may_after so_after) s.there in
         let kept : StaysOpen (entries (placed_if (suc m) n o places)) → Every NotLost (moments (placed_if (suc m) n o places))
         = kept_on n o s.kept (kept_of (Whole jobs then (me (step w e)) now_log (placed_if (suc m) n o places) (step w e).devices (step w e).tunnel.now) (entries (placed_if (suc m) n o places)) (step w e).tunnel goes) in
-        let after_event : So (step w e) (placed_if (suc m) n o places) now_log = record { goes = goes; finished = finished_on n o so s.so.finished; fails_not = s.so.fails_not; refuses = s.so.refuses } in
+        let heard_at : (item : Item) → o ≡ Some item → HeardSo jobs start now_log places (record { at = suc m; what = entry item n })
+        = λ item is. hears jobs then start (me w) now_log places w.devices m t s.there te s.so.goes legal.0.tunnel (event_calm w e own calm.0 short.0) may item is in
+        let after_event : So (step w e) (placed_if (suc m) n o places) now_log = record { goes = goes; finished = finished_on n o so s.so.finished; fails_not = s.so.fails_not; refuses = s.so.refuses; brings = s.so.brings; shared = λ cost costs. shared_on n o so heard_at cost (s.so.shared cost costs) } in
         record {
           so = logged newer (e ∷ past) whole there kept after_event;
           newest = ap newest_time (entries_if (suc m) n o places) ∙ subst (λ z. newest_time (noted o z (entries places)) ≡ z) (sym same) newest;
@@ -468,6 +521,7 @@ module _ (jobs : List Job) (turns : List GroupTurn) (start : World) (served : (k
           capable = devices_have w e calm.0 s.capable;
           kept = kept;
           idly = (idle_at e calm.0 may_after so_after, s.idly);
+          heard = heard_if_noted jobs then start (me w) now_log places w.devices m t s.there te log o refl heard_at s.heard refl;
         }
 
   append_one : (l : List Event) (e : Event) (past : List Event) → l ++ e ∷ past ≡ (l ++ e ∷ []) ++ past
@@ -481,11 +535,25 @@ module _ (jobs : List Job) (turns : List GroupTurn) (start : World) (served : (k
       let before : IsSo jobs turns log (placed start past) = so_before jobs turns log (suc (length past)) (step w e).tunnel.now (item_of w.tunnel (tunnel_event w e)) (placed start past) so in
       stands_on past (always (newer ++ e ∷ []) past (whole ∙ append_one newer e past) legal.1 calm.1 short.1 before) newer e whole legal calm short so
 
-  right : IsLegal Commissions start events → line.AreCalm start events → AreShort start events → IsSo jobs turns log (placed start events) → IsPrompt jobs start log events × RefusesRightly jobs start events log
+  abbrev SharesAll : Type 0
+  SharesAll =
+      (cost : ℕ) → AllCost jobs cost → StaysOpen (entries (placed start events))
+      → 2 * requests_put (entries (placed start events)) + frames_taken (entries (placed start events)) ≤ length jobs * (cost + 4) + (2 * group_requests (entries (placed start events)) + strangers start (entries (placed start events)))
+
+  shares_all : Stands events → log_before (suc (length events)) log ≡ log → SharesAll
+  shares_all s all cost costs stays =
+      let sh = s.so.shared cost costs in
+      let form_all : IsLog jobs turns (length events) (log_before (suc (length events)) log) = subst (IsLog jobs turns (length events)) (sym all) form in
+      let sums = sh.sum stays in
+      let bound = shared_all jobs turns (length events) start (log_before (suc (length events)) log) (placed start events) (cost + 4) form_all sh
+      (λ k worker since job there held. held_brings (replay start events) (placed start events) (length events) (moments_upto start events) (link [] events refl) s.there s.kept (is_now [] events refl) (log_before (suc (length events)) log) s.so.goes s.so.finished k worker since cost job there held (costs k job there)) in
+      omega (arith, sums, bound)
+
+  right : IsLegal Commissions start events → line.AreCalm start events → AreShort start events → IsSo jobs turns log (placed start events) → IsPrompt jobs start log events × RefusesRightly jobs start events log × EachBrings jobs (placed start events) log × EachHeard jobs start log (placed start events) × SharesAll
   right legal calm short so =
       let s : Stands events = always [] events refl legal calm short so in
       let all : log_before (suc (length events)) log ≡ log = all_before jobs turns (length events) (suc (length events)) (length events) log form (so_far jobs turns (length events) log form) (omega arith) in
-      (record { idle = s.idly; nothing_failed = subst NothingFailed all s.so.fails_not }, subst (RefusesRightly jobs start events) all s.so.refuses)
+      (record { idle = s.idly; nothing_failed = subst NothingFailed all s.so.fails_not }, subst (RefusesRightly jobs start events) all s.so.refuses, subst (EachBrings jobs (placed start events)) all s.so.brings, s.heard, shares_all s all)
 
 on_line_of : (jobs : List Job) (start : World) → HasDevices jobs start → (k : ℕ) (job : Job) → job_of jobs k ≡ Some job → start.devices job.device.raw ≢ None
 on_line_of jobs start devices k job is = none_not (start.devices job.device.raw) (each_job (λ (j : Job). OfDevice (λ d. d.power ≡ true) (start.devices j.device.raw)) jobs devices k job is) where
@@ -495,7 +563,9 @@ on_line_of jobs start devices k job is = none_not (start.devices job.device.raw)
 
 module _ (jobs : List Job) (turns : List GroupTurn) (start : World) (events : List Event) (log : List LogEntry) (served : AllByRecursion IsServedJob jobs) (devices : HasDevices jobs start) (power : HavePower start) (client : IsPromptClient jobs turns start events log) (calm : line.AreCalm start events)
     (values : HaveShortValues start) where
-  both : IsPrompt jobs start log events × RefusesRightly jobs start events log
+  both : IsPrompt jobs start log events × RefusesRightly jobs start events log × EachBrings jobs (placed start events) log × EachHeard jobs start log (placed start events)
+      × ((cost : ℕ) → AllCost jobs cost → StaysOpen (entries (placed start events))
+      → 2 * requests_put (entries (placed start events)) + frames_taken (entries (placed start events)) ≤ length jobs * (cost + 4) + (2 * group_requests (entries (placed start events)) + strangers start (entries (placed start events))))
   both =
       let safe = client.safe.safe in
       right jobs turns start (each_job IsServedJob jobs served) (on_line_of jobs start devices) client.safe.fresh power log events safe.form safe.alone safe.truly client.ends client.safe.legal calm (are_short start events client.safe.fresh values calm)
@@ -506,6 +576,23 @@ module _ (jobs : List Job) (turns : List GroupTurn) (start : World) (events : Li
 
   pub refuses_rightly : RefusesRightly jobs start events log
   refuses_rightly = both.1
+
+  pub each_brings : EachBrings jobs (placed start events) log
+  each_brings = both.2
+
+  pub each_heard : EachHeard jobs start log (placed start events)
+  each_heard = both.3
+
+  -- and what comes is shared out among the jobs
+  pub comes_for_jobs : ComeForJobs jobs start (record_of start events)
+  comes_for_jobs cost costs stays =
+      let safe = client.safe.safe in
+      let so : IsSo jobs turns log (placed start events) = record { renews = safe.renews; sends = safe.sends; acknowledges = client.acknowledges; hastens = client.hastens; asks = safe.asks; begins = client.begins } in
+      let come = come_on_line start events client.safe.fresh client.safe.legal calm (are_short start events client.safe.fresh values calm) (subst Keeps (entries_placed start events) (keeps jobs turns log (placed start events) so)) stays in
+      let P : List Entry → Type 0 = λ r. StaysOpen r → 2 * requests_put r + frames_taken r ≤ length jobs * (cost + 4) + (2 * group_requests r + strangers start r) in
+      let sums : 2 * requests_put (record_of start events) + frames_taken (record_of start events) ≤ length jobs * (cost + 4) + (2 * group_requests (record_of start events) + strangers start (record_of start events))
+      = subst P (entries_placed start events) (both.4 cost costs) stays in
+      omega (arith, come, sums)
 
   pub ends_well : EndWell jobs log
   ends_well = end_well jobs turns start events client.safe.fresh calm (on_line_of jobs start devices) (length events) log client.safe.safe.form both.0.nothing_failed both.1

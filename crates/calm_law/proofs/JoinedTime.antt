@@ -25,6 +25,7 @@ use Rattle.calm_law.proofs.Law.{RidesOn}
 use Rattle.calm_law.proofs.Phases.{items_of, Phase, Rests, Opens, Ready, Sends, Served, Awaits, Owes, Acks, Leaves, fly_at, stream_at, attempts_at, Wants, Line}
 use Rattle.calm_law.proofs.SessionRests.{rests}
 use Rattle.calm_law.proofs.Books.{tried, NotBegun, Books, none_more}
+use Rattle.calm_law.proofs.Spending.{Ledger}
 use Rattle.calm_law.proofs.Rows.{Devices, Willing, Row, items_in, more, row_nothing}
 use Rattle.calm_law.proofs.Held.{HeldJob, AreUpto, between_after, after_more}
 use Rattle.calm_law.proofs.Moves.{says_nothing}
@@ -51,7 +52,7 @@ module _ (me : IndAddr) (a : ℕ) (plan : Plan) (old : Option DeviceState) (sinc
   -- no attempt runs: it waits on for any time
   row_later : (at : ℕ) → Row me a plan old since None q d now → IsResting (tried a plan since) → Row me a plan old since None q d at
   row_later at row is = rested row.phase (phase_rests me d.address plan row.k row.n row.e now row.phase (subst IsResting row.line.attempts_are is)) row.line row.books row.wants where
-    rested : (phase : Phase) → phase ≡ Rests → Line me d.address plan row.k row.n row.e phase (tried a plan since) (items_in a q ++ items_of d.unsent) d.connection d.frames d.kept now → Books (Willing plan old) a plan row.k row.n row.e phase since → Wants (Willing plan old) plan row.k phase d.frames d.kept → Row me a plan old since None q d at
+    rested : (phase : Phase) → phase ≡ Rests → Line me d.address plan row.k row.n row.e phase (tried a plan since) (items_in a q ++ items_of d.unsent) d.connection d.frames d.kept now → Ledger (Willing plan old) a plan row.k row.n row.e phase since → Wants (Willing plan old) plan row.k phase d.frames d.kept → Row me a plan old since None q d at
     rested phase e l b wants =
         let m : Line me d.address plan row.k row.n row.e Rests (tried a plan since) (items_in a q ++ items_of d.unsent) d.connection d.frames d.kept now
         = subst (λ z. Line me d.address plan row.k row.n row.e z (tried a plan since) (items_in a q ++ items_of d.unsent) d.connection d.frames d.kept now) e l in
@@ -62,7 +63,7 @@ module _ (me : IndAddr) (a : ℕ) (plan : Plan) (old : Option DeviceState) (sinc
           phase = Rests;
           flies = refl;
           line = record { attempts_are = m.attempts_are; stream_is = m.stream_is; connection_is = m.connection_is; good = tt; numbers = m.numbers };
-          books = subst (λ z. Books (Willing plan old) a plan row.k row.n row.e z since) e b;
+          books = subst (λ z. Ledger (Willing plan old) a plan row.k row.n row.e z since) e b;
           wants = subst (λ z. Wants (Willing plan old) plan row.k z d.frames d.kept) e wants;
           address = row.address;
           power = row.power;
@@ -99,20 +100,20 @@ rest_sends (Running k x) now h one = absurd h
 module _ (me : IndAddr) (a : ℕ) (plan : Plan) (old : Option DeviceState) (since : List Moment) (fly : Option Ldata) (q : List Ldata) (d : DeviceState) (now : ℕ) (row : Row me a plan old since fly q d now) where
   -- none began, or just one
   begun_or_not : (stretches a since ≡ []) ⊎ (begun (tried a plan since) ≡ 1)
-  begun_or_not = by_books row.books where
+  begun_or_not = by_books row.books.0 where
     by_books : Books (Willing plan old) a plan row.k row.n row.e row.phase since → (stretches a since ≡ []) ⊎ (begun (tried a plan since) ≡ 1)
     by_books (inl b) = inl (none_begun me d.address plan a row.k row.n row.e now row.phase since b).0
     by_books (inr (one, o)) = inr (ap begun row.line.attempts_are ∙ begun_at me d.address plan row.k row.n row.e now row.phase ∙ one)
 
   pub few_began : length (stretches a since) ≤ 1
-  few_began = by_books row.books where
+  few_began = by_books row.books.0 where
     by_books : Books (Willing plan old) a plan row.k row.n row.e row.phase since → length (stretches a since) ≤ 1
     by_books (inl b) = let e = ap (λ (z : List (List Moment)). length z) (none_begun me d.address plan a row.k row.n row.e now row.phase since b).0 in omega (arith, e)
     by_books (inr (one, o)) = let e = ap (λ (z : List (List Moment)). length z) o.is in omega (arith, e)
 
   -- where none began none runs
   pub unbegun_rests : stretches a since ≡ [] → IsResting (tried a plan since)
-  unbegun_rests none = by_books row.books where
+  unbegun_rests none = by_books row.books.0 where
     by_books : Books (Willing plan old) a plan row.k row.n row.e row.phase since → IsResting (tried a plan since)
     by_books (inl b) = subst IsResting (sym row.line.attempts_are) (none_begun me d.address plan a row.k row.n row.e now row.phase since b).1
     by_books (inr (one, o)) = absurd (let e : [] ≡ o.stretch ∷ [] = sym none ∙ o.is in cc)

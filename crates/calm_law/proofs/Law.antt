@@ -233,18 +233,19 @@ may_of (Some what) now r k item e =
 
 pub begins : (E : Option Ldata → List Ldata → Type 0) (me : IndAddr) → E None [] → Lives E [] (fresh me)
 begins E me none =
-    let m : Nums = record { own = 0; put = 0; heard = 0; beat = 0; acked = None; confirmed = true } in
+    let m : Nums = record { own = 0; put = 0; heard = 0; beat = 0; acked = None; confirmed = true; last = None } in
     lives E Shut (Past false) Free Calm m [] [] [] 0 [] [] me [] [] [] 0
     (record {
       rising = tt;
       falling = tt;
       ups_are = record { asks_are = refl; tells_are = refl; receipts_are = refl; beats_are = refl; leaves_are = refl };
       downs_are = record { mades_are = refl; acks_are = refl; notes_are = refl; alives_are = refl; lefts_are = refl };
-      door_is = (refl, inl (refl, refl), record { stage_is = refl; pulse_is = refl; own_is = refl; put_is = refl; acked_is = refl; confirmed_is = refl; heard_is = refl }, tt);
+      door_is = (refl, inl (refl, refl), record { stage_is = refl; pulse_is = refl; own_is = refl; put_is = refl; acked_is = refl; confirmed_is = refl; last_is = refl; heard_is = refl }, tt);
       owed_is = refl;
       end_is = refl;
       reads = tt;
       counts = refl;
+      own = (tt, tt);
       acked = inl refl;
       fits = tt;
       heard = omega arith;

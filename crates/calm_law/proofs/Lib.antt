@@ -2,6 +2,7 @@ pub mod Ways
 pub mod Tokens
 pub mod Seen
 pub mod State
+pub mod Owning
 pub mod Frames
 pub mod Puts
 pub mod Sends
@@ -13,11 +14,14 @@ pub mod Confirmations
 pub mod Ends
 pub mod Law
 pub mod Tries
+pub mod Tally
 pub mod TunnelTold
 pub mod Scripts
 pub mod Phases
 pub mod Books
 pub mod BooksMoves
+pub mod Spending
+pub mod PlanCosts
 pub mod SessionPuts
 pub mod SessionBus
 pub mod SessionTakes
@@ -25,6 +29,7 @@ pub mod SessionRests
 pub mod Rows
 pub mod RowsOnBus
 pub mod Moves
+pub mod Gets
 pub mod Held
 pub mod Finished
 pub mod Capacities
@@ -46,6 +51,8 @@ pub mod JoinedLine
 pub mod JoinedSteps
 pub mod JoinedAlways
 pub mod JoinedRests
+pub mod Hearing
+pub mod Sharing
 pub mod JoinedLaw
 pub mod Absent
 pub mod LegalCalm

@@ -20,7 +20,8 @@ use Rattle.line_model.specs.Told.{OfJob}
 use Rattle.line_model.specs.Waiting.{IsResting, attempts_of}
 use Rattle.calm_law.proofs.Phases.{Phase, Rests, items_of, fly_at, Line}
 use Rattle.calm_law.proofs.Books.{tried}
-use Rattle.calm_law.proofs.Rows.{Devices, Row, items_in, fly_to}
+use Rattle.calm_law.proofs.Rows.{Devices, Row, Willing, items_in, fly_to}
+use Rattle.calm_law.proofs.Spending.{nothing_spent}
 use Rattle.calm_law.proofs.Held.{HeldJob, IsTo, TakesIt, EndsIt, Else, is_to, after_other, took_since, ended_not, after, AreUpto, after_last}
 use Rattle.calm_law.proofs.Sessions.{OfHeld, Whole}
 use Rattle.calm_law.proofs.JoinedTime.{phase_rests, rest_of_both}
@@ -40,7 +41,7 @@ row_anew me a plan other old l fly q d now row rest = rested row.phase (phase_re
         phase = Rests;
         flies = ap (fly_at row.n) (sym e) ∙ flies;
         line = record { attempts_are = refl; stream_is = m.stream_is; connection_is = m.connection_is; good = tt; numbers = m.numbers };
-        books = inl (refl, refl);
+        books = nothing_spent (Willing other (Some d)) a other row.n row.e (inl (refl, refl));
         wants = λ zero w. w;
         address = row.address;
         power = row.power;

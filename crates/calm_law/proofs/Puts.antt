@@ -39,6 +39,7 @@ module _ (E : Option Ldata → List Ldata → Type 0) (r : List Entry) (present 
         end_is = h.end_is;
         reads = h.reads;
         counts = (let c = h.counts in omega (arith, c));
+        own = h.own;
         acked = h.acked;
         fits = h.fits.1;
         heard = h.heard;

@@ -85,7 +85,7 @@ module _ (a : ℕ) (plan : Plan) (op : ℕ) (got expected : List ℕ) (s : List 
 
 pub refused_not : (me : IndAddr) (a : ℕ) (plan : Plan) (old : Option DeviceState) (l : List Moment) (fly : Option Ldata) (q : List Ldata) (d : DeviceState) (now op : ℕ) (got expected : List ℕ) → Row me a plan old l fly q d now → IsResting (tried a plan l) → Willing plan old
     → IsRefused a plan op got expected (session (course a (last_stretch (stretches a l)))) → ⊥
-refused_not me a plan old l fly q d now op got expected row rest willing r = rested row.phase (phase_rests me d.address plan row.k row.n row.e now row.phase (subst IsResting row.line.attempts_are rest)) row.books where
+refused_not me a plan old l fly q d now op got expected row rest willing r = rested row.phase (phase_rests me d.address plan row.k row.n row.e now row.phase (subst IsResting row.line.attempts_are rest)) row.books.0 where
   by_course : (c : Course) → IsLeft (Decided (Willing plan old) a plan) c → IsRefused a plan op got expected (session c) → ⊥
   by_course Unconfirmed h r = h
   by_course WithError h r = h

@@ -95,7 +95,7 @@ module _ (E : Option Ldata → List Ldata → Type 0) (r : List Entry) (present 
       let seen = response_seen 1 me in
       let beat : BeatIs Calm m.beat m.heard now = subst (λ z. BeatIs z m.beat m.heard now) e.pulse_is h.beat in
       let at : m.heard ≡ now = e.heard_is in
-      going E Replied (Past false) Free Calm (record { own = 0; put = 0; heard = now; beat = m.beat; acked = None; confirmed = true }) before (Made seen.0 ∷ downs) r present up' (new_datagram (Written (ConnectResponse 1 0 (Some me))) 1 1 ∷ down) me waiting acted puts now
+      going E Replied (Past false) Free Calm (record { own = 0; put = 0; heard = now; beat = m.beat; acked = None; confirmed = true; last = m.last }) before (Made seen.0 ∷ downs) r present up' (new_datagram (Written (ConnectResponse 1 0 (Some me))) 1 1 ∷ down) me waiting acted puts now
       (record {
         rising = way;
         falling = (record { reads = seen.1; from = refl; undelivered = refl; kept = refl }, h.falling);
@@ -103,7 +103,7 @@ module _ (E : Option Ldata → List Ldata → Type 0) (r : List Entry) (present 
         downs_are = record { mades_are = ap (λ l. 0 ∷ l) n.mades_are; acks_are = n.acks_are; notes_are = n.notes_are; alives_are = n.alives_are; lefts_are = n.lefts_are };
         door_is = (
           h.door_is.0,
-          record { stage_is = refl; pulse_is = refl; own_is = refl; put_is = refl; acked_is = refl; confirmed_is = refl; heard_is = refl },
+          record { stage_is = refl; pulse_is = refl; own_is = refl; put_is = refl; acked_is = refl; confirmed_is = refl; last_is = e.last_is; heard_is = refl },
           tt,
           record { tunnel = seen.0; younger = []; is = ap (λ l. Made seen.0 ∷ l) (downs_none downs n) },
         );
@@ -111,6 +111,7 @@ module _ (E : Option Ldata → List Ldata → Type 0) (r : List Entry) (present 
         end_is = h.end_is;
         reads = tt;
         counts = (let c : awaited m.confirmed ≡ 0 + (0 + cons_in waiting) = h.counts in let a : awaited m.confirmed ≡ 0 = ap awaited e.confirmed_is in omega (arith, a, c));
+        own = h.own;
         acked = inl refl;
         fits = h.fits;
         heard = omega arith;
@@ -156,6 +157,7 @@ module _ (E : Option Ldata → List Ldata → Type 0) (r : List Entry) (present 
         end_is = h.end_is;
         reads = (own, h.reads.0);
         counts = h.counts;
+        own = h.own;
         acked = h.acked;
         fits = h.fits;
         heard = omega arith;
@@ -191,6 +193,7 @@ module _ (E : Option Ldata → List Ldata → Type 0) (r : List Entry) (present 
         end_is = h.end_is;
         reads = h.reads;
         counts = h.counts;
+        own = h.own;
         acked = h.acked;
         fits = h.fits;
         heard = omega arith;
@@ -223,6 +226,7 @@ module _ (E : Option Ldata → List Ldata → Type 0) (r : List Entry) (present 
         end_is = h.end_is;
         reads = h.reads;
         counts = h.counts;
+        own = h.own;
         acked = h.acked;
         fits = h.fits;
         heard = omega arith;

@@ -18,7 +18,8 @@ use Rattle.calm_law.proofs.State.{is_con_frame, one_if, cons_in}
 use Rattle.calm_law.proofs.Phases.{Item, Told, Heard, items_if, items_of, Phase, Rests, Opens, Ready, Sends, Served, Awaits, Owes, Acks, Leaves, fly_at, stream_at, attempts_at, Goes, Wants, Line}
 use Rattle.calm_law.proofs.SessionPuts.{NothingFlies, Put, put_kept}
 use Rattle.calm_law.proofs.SessionTakes.{taken_item, SaysItem, Got, got_kept}
-use Rattle.calm_law.proofs.Books.{Says, tried, tried_more, One, IsLeft, Decided, Books, IsntOpening, books_more}
+use Rattle.calm_law.proofs.Books.{Says, tried, tried_more, One, IsLeft, Decided, IsntOpening}
+use Rattle.calm_law.proofs.Spending.{Ledger, ledger_more}
 use Rattle.calm_law.proofs.SessionRests.{flies_or_told}
 
 -- ---- what of it is a device's
@@ -83,7 +84,7 @@ pub record Row (me : IndAddr) (a : ℕ) (plan : Plan) (old : Option DeviceState)
   pub phase : Phase
   pub flies : fly_at n phase ≡ fly_to a fly
   pub line : Line me d.address plan k n e phase (tried a plan l) (items_in a q ++ items_of d.unsent) d.connection d.frames d.kept now
-  pub books : Books (Willing plan old) a plan k n e phase l
+  pub books : Ledger (Willing plan old) a plan k n e phase l
   pub wants : Wants (Willing plan old) plan k phase d.frames d.kept
   pub address : d.address.raw ≡ a
   pub power : d.power ≡ true
@@ -220,7 +221,7 @@ module _ (me : IndAddr) (a : ℕ) (plan : Plan) (old : Option DeviceState) (l : 
         phase = row.phase;
         flies = row.flies;
         line = record { attempts_are = nothing_tried says ∙ x.attempts_are; stream_is = x.stream_is; connection_is = x.connection_is; good = x.good; numbers = x.numbers };
-        books = books_more W a plan m None says row.n row.e row.k row.phase l (inl refl) row.books;
+        books = ledger_more W a plan m None says row.n row.e row.k row.phase l (inl refl) row.books;
         wants = row.wants;
         address = row.address;
         power = row.power;
@@ -238,7 +239,7 @@ module _ (me : IndAddr) (a : ℕ) (plan : Plan) (old : Option DeviceState) (l : 
         phase = row.phase;
         flies = row.flies;
         line = record { attempts_are = confirmed_tried error says ∙ confirmed_none now error (tried a plan l) none ∙ x.attempts_are; stream_is = x.stream_is; connection_is = x.connection_is; good = x.good; numbers = x.numbers };
-        books = books_more W a plan m (Some error) says row.n row.e row.k row.phase l (inr (not_opening me d.address plan row.k row.n row.e now row.phase there)) row.books;
+        books = ledger_more W a plan m (Some error) says row.n row.e row.k row.phase l (inr (not_opening me d.address plan row.k row.n row.e now row.phase there)) row.books;
         wants = row.wants;
         address = row.address;
         power = row.power;

@@ -1,11 +1,12 @@
 -- What the client's record says of its open channel, number 1, and how each entry changes that.
 use Rattle.std.proofs.Common.{◌≡◌, ℕ, List, [], ◌∷◌, Bool, true, false, cond, ◌&&◌, ◌||◌, if◌then◌else◌, Option, Some, None, refl, ◌∙◌, ap}
 use Rattle.std.specs.Prelude.{take, is_some}
+use Rattle.knx_model.specs.declared.frames.cemi.Ldata.{Ldata}
 use Rattle.knx_model.specs.declared.frames.ip.IpFrame.{IpFrame}
 use Rattle.line_model.specs.Gateway.{next_number}
 use Rattle.line_model.specs.Reading.{datagram_in, request_in, ack_in, state_request_in, state_response_in, disconnect_request_in, disconnect_response_in}
 use Rattle.line_model.specs.Record.{Entry, Put, Got, Quiet, entry, put_in, got_in}
-use Rattle.line_model.specs.ChannelLost.{Own, own, acknowledged, confirmed, expected, beats, is_none, is_request, acknowledges, confirms, delivers, is_for, answers_beat, has_left, is_given_up, is_unconfirmed, is_dead, tells_bad, is_lost}
+use Rattle.line_model.specs.ChannelLost.{Own, own, acknowledged, confirmed, last_frame, frame_in_request, expected, beats, is_none, is_request, acknowledges, confirms, delivers, is_for, answers_beat, has_left, is_given_up, is_unconfirmed, is_dead, tells_bad, is_lost}
 use Rattle.line_model.specs.ClientView.{ClientChannel, Open, Lost, after_entry, channel}
 use Rattle.line_model.specs.Renews.{last_beat, has_renewed}
 use Rattle.line_model.specs.Closing.{asks_to_end, is_open}
@@ -16,19 +17,21 @@ pub record Seen : Type 0 where
   pub own : Own
   pub acked : Option ℕ  -- when the request put last was acknowledged
   pub confirmed : Bool
+  pub last : Option Ldata  -- its frame
   pub expected : ℕ
   pub beats : List ℕ
   pub beat : ℕ  -- when the last heartbeat was sent
 
 abbrev pub seen : List Entry → Seen
-seen l = record { own = own 1 l; acked = acknowledged 1 l; confirmed = confirmed 1 l; expected = expected 1 l; beats = beats 1 l; beat = last_beat 1 l }
+seen l = record { own = own 1 l; acked = acknowledged 1 l; confirmed = confirmed 1 l; last = last_frame 1 l; expected = expected 1 l; beats = beats 1 l; beat = last_beat 1 l }
 
 -- after an entry that put one frame and got another
 abbrev pub seen_after : Seen → ℕ → Option IpFrame → Option IpFrame → Seen
 seen_after s now put got = record {
   own = if is_request 1 (request_in put) then record { number = s.own.number; sent = now ∷ s.own.sent } else (if acknowledges 1 s.own (ack_in got) then record { number = next_number s.own.number; sent = [] } else s.own);
   acked = if is_request 1 (request_in put) && is_none s.own.sent then None else (if acknowledges 1 s.own (ack_in got) then Some now else s.acked);
-  confirmed = if is_request 1 (request_in put) && is_none s.own.sent then false else (if confirms 1 s.expected (request_in got) then true else s.confirmed);
+  confirmed = if is_request 1 (request_in put) && is_none s.own.sent then false else (if confirms 1 s.expected s.last (request_in got) then true else s.confirmed);
+  last = if is_request 1 (request_in put) && is_none s.own.sent then frame_in_request (request_in put) else s.last;
   expected = if delivers 1 s.expected (request_in got) then next_number s.expected else s.expected;
   beats = if is_for 1 (state_request_in put) then now ∷ s.beats else (if answers_beat 1 s.beats now (state_response_in got) then [] else s.beats);
   beat = if is_for 1 (state_request_in put) then now else s.beat;

@@ -19,6 +19,7 @@ use Rattle.line_model.specs.Haste.{KeepsPace}
 use Rattle.calm_law.specs.CalmTunnel.{PutsSo, PutsFree}
 use Rattle.calm_law.proofs.Tokens.{Rise, Fall, Ask, Tell, Receipt, Beat, Leave}
 use Rattle.calm_law.proofs.Seen.{Seen, IsOpen, up_put, up_leaves}
+use Rattle.calm_law.proofs.Owning.{own_none}
 use Rattle.calm_law.proofs.State.{Door, Shut, Knocked, Replied, Ajar, Stage, Rising, Riding, Past, Under, Free, Coming, Owed, Back, Pulse, Calm, Beating, Echo, Nums, owed_at, seen_at, awaited, flies, con_under, cons_in, Paced, IsFree, IsUnseen, Goes, Going, going, tunnel_at, sent_at, flies_of, queue_of, Steps}
 
 -- ---- what the client may do
@@ -143,6 +144,7 @@ module _ (r : List Entry) (octets : List ℕ) (present : ℕ) (up down : List Se
         end_is = refl;
         reads = h.reads;
         counts = h.counts;
+        own = h.own;
         acked = h.acked;
         fits = h.fits;
         heard = h.heard;
@@ -204,6 +206,7 @@ module _ (r : List Entry) (octets : List ℕ) (present : ℕ) (up down : List Se
         end_is = refl;
         reads = h.reads;
         counts = h.counts;
+        own = h.own;
         acked = h.acked;
         fits = h.fits;
         heard = h.heard;
@@ -228,6 +231,7 @@ module _ (r : List Entry) (octets : List ℕ) (present : ℕ) (up down : List Se
         end_is = refl;
         reads = h.reads;
         counts = h.counts;
+        own = h.own;
         acked = h.acked;
         fits = h.fits;
         heard = h.heard;
@@ -251,6 +255,7 @@ module _ (r : List Entry) (octets : List ℕ) (present : ℕ) (up down : List Se
         end_is = refl;
         reads = h.reads;
         counts = h.counts;
+        own = h.own;
         acked = h.acked;
         fits = h.fits;
         heard = h.heard;
@@ -267,7 +272,7 @@ module _ (r : List Entry) (octets : List ℕ) (present : ℕ) (up down : List Se
   tell_sent leaves (Riding g b) under pulse m ups downs cemi f d reads req con e h = absurd (cc)
   tell_sent leaves (Past true) under pulse m ups downs cemi f d reads req con e h = absurd (let g : sent_at (Past true) now ≡ sent_at (Past false) now = ap (λ z. sent_at z now) e in cc)
   tell_sent leaves (Past false) under pulse m ups downs cemi f d reads req con e h =
-      going F (Ajar leaves) (Rising cemi f) under pulse (record m { acked = None; confirmed = false }) (Tell m.own cemi ∷ ups) downs (x ∷ r) present (new_datagram octets present 1 ∷ up) down me waiting acted puts now
+      going F (Ajar leaves) (Rising cemi f) under pulse (record m { acked = None; confirmed = false; last = ldata_in cemi }) (Tell m.own cemi ∷ ups) downs (x ∷ r) present (new_datagram octets present 1 ∷ up) down me waiting acted puts now
       (record {
         rising = (record { reads = d; from = h.door_is.at; undelivered = refl; kept = refl }, h.rising);
         falling = h.falling;
@@ -278,6 +283,7 @@ module _ (r : List Entry) (octets : List ℕ) (present : ℕ) (up down : List Se
         end_is = refl;
         reads = (reads, req);
         counts = (let c : awaited m.confirmed ≡ 0 + (con_under under + cons_in waiting) = h.counts in let z : awaited m.confirmed ≡ 0 = ap awaited con in omega (arith, c, z));
+        own = (reads, own_none (ldata_in cemi) (queue_of under waiting) (queue_cons under (let c : awaited m.confirmed ≡ 0 + (con_under under + cons_in waiting) = h.counts in let z : awaited m.confirmed ≡ 0 = ap awaited con in omega (arith, c, z))));
         acked = inr (inl refl);
         fits = h.fits;
         heard = h.heard;

@@ -25,7 +25,7 @@ use Rattle.knx_model.specs.Served.{FitsInto, IsServed}
 use Rattle.session_law.proofs.Frames.{numbered_read, ack_read}
 use Rattle.session_law.proofs.Apdus.{answer_is_apdu}
 use Rattle.line_model.specs.Moments.{Moment}
-use Rattle.calm_law.proofs.Books.{Books}
+use Rattle.calm_law.proofs.Spending.{Ledger}
 use Rattle.calm_law.proofs.Phases.{Told, Heard, items_if, items_of, Phase, Rests, Opens, Ready, Sends, Served, Awaits, Owes, Acks, Leaves, fly_at, stream_at, attempts_at, answering_at, connection_at, device_at, Goes, Wants, Follows, IsGood}
 
 -- ---- frames that the device takes
@@ -133,7 +133,7 @@ module _ (me device : IndAddr) (plan : Plan) (n e now : ℕ) (small : (n < 16) �
     pub stream : Told ∷ items_of after.unsent ≡ stream_at n e next
     pub good : IsGood plan e next frames after.kept
     pub same : (after.frames ≡ frames) × (after.power ≡ true) × (after.address ≡ device)
-    pub books : (k a : ℕ) (l : List Moment) → Books W a plan k n e phase l → Books W a plan k n e next l
+    pub books : (k a : ℕ) (l : List Moment) → Ledger W a plan k n e phase l → Ledger W a plan k n e next l
     pub wants : (k : ℕ) → Wants W plan k phase frames kept → Wants W plan k next frames after.kept
 
   -- it takes it by itself

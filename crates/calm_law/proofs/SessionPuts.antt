@@ -17,8 +17,8 @@ use Rattle.knx_model.specs.Served.{IsServed}
 use Rattle.line_model.specs.Attempts.{Attempts, Resting, Running, sent_of, put_so, put_attempt, MayPut, MayDisconnect, IsNext, IsRepeat, IsDone, Owes as OwesIt, is_silent}
 use Rattle.line_model.specs.Moments.{Moment}
 use Rattle.session_law.proofs.Frames.{numbered_read, ack_read}
-use Rattle.calm_law.proofs.Books.{Says, One, IsLeft, Decided, Books}
-use Rattle.calm_law.proofs.BooksMoves.{begins_books, asks_books, ack_books, leave_books}
+use Rattle.calm_law.proofs.Books.{Says, One, IsLeft, Decided}
+use Rattle.calm_law.proofs.Spending.{Ledger, begins_ledger, asks_ledger, ack_ledger, leave_ledger}
 use Rattle.calm_law.proofs.Falls.{not_passed}
 use Rattle.calm_law.proofs.Phases.{Phase, Rests, Opens, Ready, Sends, Served, Awaits, Owes, Acks, Leaves, fly_at, stream_at, attempts_at, connection_at, Goes, Wants, IsGood, Follows, client_at, waiting_question, attempt_of}
 
@@ -37,7 +37,7 @@ module _ (me device : IndAddr) (plan : Plan) (n e now : ℕ) (frames : FrameSupp
     pub good : IsGood plan e next frames kept
     pub stream : stream_at n e next ≡ stream_at n e phase
     pub connection : connection_at me device plan n e now next ≡ connection_at me device plan n e now phase
-    pub books : (a : ℕ) (m : Moment) (l : List Moment) → Says a m (Some f) None None → (f ≡ Connect → One a l (IsLeft (Decided W a plan)) → ⊥) → Books W a plan k n e phase l → Wants W plan k phase frames kept → Books W a plan begun n e next (m ∷ l) × Wants W plan begun next frames kept
+    pub books : (a : ℕ) (m : Moment) (l : List Moment) → Says a m (Some f) None None → (f ≡ Connect → One a l (IsLeft (Decided W a plan)) → ⊥) → Ledger W a plan k n e phase l → Wants W plan k phase frames kept → Ledger W a plan begun n e next (m ∷ l) × Wants W plan begun next frames kept
 
   -- no wait has passed
   asking_not : (s : Session) (apdu : List ℕ) → client_expired (Asking s (waiting_question n apdu (Some now))) now ≡ over.Nothing
@@ -74,12 +74,12 @@ module _ (me device : IndAddr) (plan : Plan) (n e now : ℕ) (frames : FrameSupp
 
   -- ---- a T_Connect
 
-  first_wants : {k : ℕ} (a : ℕ) (l : List Moment) → (One a l (IsLeft (Decided W a plan)) → ⊥) → Books W a plan k n e Rests l → Wants W plan k Rests frames kept → W → AnswersAll (answer_in frames) plan kept
-  first_wants a l undecided (inl b) wants = wants b.0
-  first_wants a l undecided (inr (one, o)) wants = absurd (undecided o)
+  first_wants : {k : ℕ} (a : ℕ) (l : List Moment) → (One a l (IsLeft (Decided W a plan)) → ⊥) → Ledger W a plan k n e Rests l → Wants W plan k Rests frames kept → W → AnswersAll (answer_in frames) plan kept
+  first_wants a l undecided (inl b, spends) wants = wants b.0
+  first_wants a l undecided (inr (one, o), spends) wants = absurd (undecided o)
 
   pub put_connect : (k : ℕ) → Goes plan false frames kept → Put k Rests Connect
-  put_connect k good = record { begun = suc k; next = Opens true; flies = refl; is = refl; good = good; stream = refl; connection = refl; books = λ a m l says undecided h wants. (begins_books W a plan m l k n e says (undecided refl) h, first_wants a l (undecided refl) h wants) }
+  put_connect k good = record { begun = suc k; next = Opens true; flies = refl; is = refl; good = good; stream = refl; connection = refl; books = λ a m l says undecided h wants. (begins_ledger W a plan m l k n e says (undecided refl) h, first_wants a l (undecided refl) h wants) }
 
   -- ---- a service
 
@@ -112,7 +112,7 @@ module _ (me device : IndAddr) (plan : Plan) (n e now : ℕ) (frames : FrameSupp
           good = record { sendable = subst IsSendable x.head good.sendable; served = λ z. subst (λ p. IsServed frames p kept) x.head (good.served on) };
           stream = refl;
           connection = refl;
-          books = λ a m l says undecided h wants. (asks_books W a plan m l k n e number apdu x.expect x.next left closing says num on x.head h, λ w. subst (λ z. AnswersAll (answer_in frames) z kept) x.head (wants w).1);
+          books = λ a m l says undecided h wants. (asks_ledger W a plan m l k n e number apdu x.expect x.next left closing says num on x.head h, λ w. subst (λ z. AnswersAll (answer_in frames) z kept) x.head (wants w).1);
         }
 
   -- ---- a T_ACK
@@ -122,7 +122,7 @@ module _ (me device : IndAddr) (plan : Plan) (n e now : ℕ) (frames : FrameSupp
   put_ack k left closing v m tpdu f good read owes =
       let two : Written (tpdus.Ack m) ∷ [] ≡ tpdu ∷ owes.0 = owes.1 in
       let tpdu_is : Written (tpdus.Ack m) ≡ tpdu = cc in
-      (sym read ∙ ap frame_in (sym tpdu_is) ∙ ack_read m good.1.0, record { begun = k; next = Acks true left closing v m; flies = refl; is = refl; good = good; stream = refl; connection = refl; books = λ a t l says undecided h wants. (ack_books W a plan t l k n e left closing v m says h, wants) })
+      (sym read ∙ ap frame_in (sym tpdu_is) ∙ ack_read m good.1.0, record { begun = k; next = Acks true left closing v m; flies = refl; is = refl; good = good; stream = refl; connection = refl; books = λ a t l says undecided h wants. (ack_ledger W a plan t l k n e left closing v m says h, wants) })
 
   -- ---- a T_Disconnect
 
@@ -134,13 +134,13 @@ module _ (me device : IndAddr) (plan : Plan) (n e now : ℕ) (frames : FrameSupp
     by_which (inr d) = inr d.all
   why_leaves left closing (inr silent) = absurd (not_silent _ (up_not (client_at device n e now)) silent)
 
-  one_began : (k : ℕ) (left : Plan) (closing : Bool) (a : ℕ) (l : List Moment) → Books W a plan k n e (Ready left closing) l → k ≡ 1
-  one_began k left closing a l (inl b) = absurd b
-  one_began k left closing a l (inr h) = h.0
+  one_began : (k : ℕ) (left : Plan) (closing : Bool) (a : ℕ) (l : List Moment) → Ledger W a plan k n e (Ready left closing) l → k ≡ 1
+  one_began k left closing a l (inl b, spends) = absurd b
+  one_began k left closing a l (inr h, spends) = h.0
 
   pub put_leave : (k : ℕ) (left : Plan) (closing : Bool) → MayDisconnect (attempt_of (Up (client_at device n e now)) left [] None closing) now → Put k (Ready left closing) Disconnect
   put_leave k left closing may =
-      record { begun = k; next = Leaves true left; flies = refl; is = refl; good = tt; stream = refl; connection = refl; books = λ a m l says undecided h wants. (leave_books W a plan m l k n e left closing says (why_leaves left closing may) (λ w. (wants w).0) h, one_began k left closing a l h) }
+      record { begun = k; next = Leaves true left; flies = refl; is = refl; good = tt; stream = refl; connection = refl; books = λ a m l says undecided h wants. (leave_ledger W a plan m l k n e left closing says (why_leaves left closing may) (λ w. (wants w).0) h, one_began k left closing a l h) }
 
   -- ---- and nothing else
 

@@ -18,8 +18,8 @@ use Rattle.knx_model.specs.Plans.{Plan, Asks, Suits, followed}
 use Rattle.line_model.specs.Progress.{suits}
 use Rattle.line_model.specs.Attempts.{Attempts, Running, sent_of, confirmed_so, heard_so, owing}
 use Rattle.line_model.specs.Moments.{Moment}
-use Rattle.calm_law.proofs.Books.{Says, Books}
-use Rattle.calm_law.proofs.BooksMoves.{opened_books, served_books, acks_books, leaves_books, lacks_books, next_books, wanted_books, refused_books}
+use Rattle.calm_law.proofs.Books.{Says}
+use Rattle.calm_law.proofs.Spending.{Ledger, opened_ledger, served_ledger, acks_ledger, leaves_ledger, lacks_ledger, next_ledger, wanted_ledger, refused_ledger}
 use Rattle.calm_law.proofs.Phases.{Item, Told, Heard, Phase, Rests, Opens, Ready, Sends, Served, Awaits, Owes, Acks, Leaves, fly_at, stream_at, answer_items, attempts_at, connection_at, client_at, attempt_of, Answers, Wants, IsGood}
 
 -- what an item is to the attempts
@@ -44,7 +44,7 @@ module _ (me device : IndAddr) (plan : Plan) (k now : ℕ) (frames : FrameSuppor
     pub connection : connection_at me device plan n e now phase ≡ connection_at me device plan number expected now next
     pub good : IsGood plan expected next frames kept
     pub numbers : (number < 16) × (expected < 16)
-    pub books : (a : ℕ) (m : Moment) (l : List Moment) → SaysItem a m item → Books W a plan k n e phase l → Books W a plan k number expected next (m ∷ l)
+    pub books : (a : ℕ) (m : Moment) (l : List Moment) → SaysItem a m item → Ledger W a plan k n e phase l → Ledger W a plan k number expected next (m ∷ l)
     pub wants : Wants W plan k phase frames kept → Wants W plan k next frames kept
 
   next_small : (n : ℕ) → next_number n < 16
@@ -56,18 +56,18 @@ module _ (me device : IndAddr) (plan : Plan) (k now : ℕ) (frames : FrameSuppor
   unfolding after_confirmed
   told n e Rests rest small good h = absurd (cc)
   told n e (Opens true) rest small good h = absurd (cc)
-  told n e (Opens false) rest small good h = record { number = 0; expected = 0; next = Ready plan false; lands = refl; flew = refl; is = refl; stream = (let r : rest ≡ [] = cc in r); connection = refl; good = good; numbers = (omega arith, omega arith); books = λ a m l says h. opened_books W a plan m l k n e says h; wants = λ h w. (refl, h w) }
+  told n e (Opens false) rest small good h = record { number = 0; expected = 0; next = Ready plan false; lands = refl; flew = refl; is = refl; stream = (let r : rest ≡ [] = cc in r); connection = refl; good = good; numbers = (omega arith, omega arith); books = λ a m l says h. opened_ledger W a plan m l k n e says h; wants = λ h w. (refl, h w) }
   told n e (Ready left closing) rest small good h = absurd (cc)
   told n e (Sends apdu expect next) rest small good h = absurd (cc)
   told n e (Served true apdu expect next o) rest small good h =
-      record { number = n; expected = e; next = Served false apdu expect next o; lands = refl; flew = refl; is = refl; stream = (let r : rest ≡ Heard (Ack n) ∷ answer_items e o = cc in r); connection = refl; good = good; numbers = small; books = λ a m l says h. served_books W a plan m l k n e apdu expect next o says h; wants = λ h. h }
+      record { number = n; expected = e; next = Served false apdu expect next o; lands = refl; flew = refl; is = refl; stream = (let r : rest ≡ Heard (Ack n) ∷ answer_items e o = cc in r); connection = refl; good = good; numbers = small; books = λ a m l says h. served_ledger W a plan m l k n e apdu expect next o says h; wants = λ h. h }
   told n e (Served false apdu expect next o) rest small good h = absurd (cc)
   told n e (Awaits apdu expect next v) rest small good h = absurd (cc)
   told n e (Owes left closing v m) rest small good h = absurd (cc)
   told n e (Acks true left closing v m) rest small good h = absurd (cc)
-  told n e (Acks false left closing v m) rest small good h = record { number = n; expected = e; next = Ready left closing; lands = refl; flew = refl; is = refl; stream = (let r : rest ≡ [] = cc in r); connection = refl; good = good.0; numbers = small; books = λ a t l says h. acks_books W a plan t l k n e left closing v m says h; wants = λ h. h }
+  told n e (Acks false left closing v m) rest small good h = record { number = n; expected = e; next = Ready left closing; lands = refl; flew = refl; is = refl; stream = (let r : rest ≡ [] = cc in r); connection = refl; good = good.0; numbers = small; books = λ a t l says h. acks_ledger W a plan t l k n e left closing v m says h; wants = λ h. h }
   told n e (Leaves true left) rest small good h = absurd (cc)
-  told n e (Leaves false left) rest small good h = record { number = n; expected = e; next = Rests; lands = refl; flew = refl; is = refl; stream = (let r : rest ≡ [] = cc in r); connection = refl; good = tt; numbers = small; books = λ a m l says h. leaves_books W a plan m l k n e left says h; wants = λ one none. absurd (let c : 1 ≡ 0 = sym one ∙ none in cc) }
+  told n e (Leaves false left) rest small good h = record { number = n; expected = e; next = Rests; lands = refl; flew = refl; is = refl; stream = (let r : rest ≡ [] = cc in r); connection = refl; good = tt; numbers = small; books = λ a m l says h. leaves_ledger W a plan m l k n e left says h; wants = λ one none. absurd (let c : 1 ≡ 0 = sym one ∙ none in cc) }
 
   -- ---- the T_ACK
 
@@ -87,7 +87,7 @@ module _ (me device : IndAddr) (plan : Plan) (k now : ℕ) (frames : FrameSuppor
         connection = refl;
         good = good;
         numbers = (next_small n, small.1);
-        books = λ a m l says h. lacks_books W a plan m l k n e apdu expect next v says h;
+        books = λ a m l says h. lacks_ledger W a plan m l k n e apdu expect next v says h;
         wants = λ h. h;
       }
   ack_next n e apdu AckOnly next None rest small good r =
@@ -102,7 +102,7 @@ module _ (me device : IndAddr) (plan : Plan) (k now : ℕ) (frames : FrameSuppor
         connection = refl;
         good = record { sendable = good.sendable.2 None; served = λ z. good.served tt };
         numbers = (next_small n, small.1);
-        books = λ a m l says h. next_books W a plan m l k n e apdu next says h;
+        books = λ a m l says h. next_ledger W a plan m l k n e apdu next says h;
         wants = λ h w. (refl, (h w).1);
       }
   ack_next n e apdu (Is wanted) next None rest small good r = absurd (let a : true ≡ has_answer apdu = good.sendable.1 in let b : false ≡ has_answer apdu = good.exactly in cc)
@@ -141,7 +141,7 @@ module _ (me device : IndAddr) (plan : Plan) (k now : ℕ) (frames : FrameSuppor
         connection = refl;
         good = (record { sendable = good.sendable.2 (Some v); served = λ z. good.served (fits suit) }, (small.1, refl));
         numbers = (small.0, next_small e);
-        books = λ a m l says h. wanted_books W a plan m l k n e apdu expect next v says (fits suit) h;
+        books = λ a m l says h. wanted_ledger W a plan m l k n e apdu expect next v says (fits suit) h;
         wants = λ h w. (refl, (h w).1);
       }
   answer_by n e apdu expect next v rest small good r some same fits suits_it false suit =
@@ -157,7 +157,7 @@ module _ (me device : IndAddr) (plan : Plan) (k now : ℕ) (frames : FrameSuppor
         connection = refl;
         good = (record { sendable = good.sendable; served = λ z. absurd (let a : true ≡ false = z in cc) }, (small.1, refl));
         numbers = (small.0, next_small e);
-        books = λ a m l says h. refused_books W a plan m l k n e apdu expect next v says some suit h;
+        books = λ a m l says h. refused_ledger W a plan m l k n e apdu expect next v says some suit h;
         wants = λ h w. absurd (let c : true ≡ false = sym (suits_it (h w).0) ∙ suit in cc);
       }
 

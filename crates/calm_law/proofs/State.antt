@@ -10,7 +10,7 @@ use Rattle.line_model.specs.Network.{Sent}
 use Rattle.line_model.specs.Gateway.{Request, Channel, next_number}
 use Rattle.line_model.specs.Tunnel.{Tunnel}
 use Rattle.line_model.specs.Record.{Entry}
-use Rattle.line_model.specs.ChannelLost.{is_confirmation}
+use Rattle.line_model.specs.ChannelLost.{is_confirmation, is_confirmation_of}
 use Rattle.line_model.specs.ClientView.{Fresh, Sought, Deed, Puts, Takes, Loses, Nothing, channel}
 use Rattle.line_model.specs.Renews.{has_renewed, owed, to_last_poll, to_poll_before}
 use Rattle.line_model.specs.Sendings.{end_got}
@@ -55,6 +55,7 @@ pub record Nums : Type 0 where
   pub beat : ℕ  -- when the client sent its last heartbeat
   pub acked : Option ℕ  -- when its last request was acknowledged
   pub confirmed : Bool  -- and whether it was confirmed
+  pub last : Option Ldata  -- its frame
 
 -- ---- what is under way
 
@@ -189,7 +190,7 @@ beating_at Echo now = now ∷ []
 
 abbrev pub seen_at : Stage → Under → Pulse → Nums → ℕ → Seen
 seen_at stage under pulse m now =
-    record { own = record { number = m.own; sent = sent_at stage now }; acked = m.acked; confirmed = m.confirmed; expected = taken_at m.put under; beats = beating_at pulse now; beat = m.beat }
+    record { own = record { number = m.own; sent = sent_at stage now }; acked = m.acked; confirmed = m.confirmed; last = m.last; expected = taken_at m.put under; beats = beating_at pulse now; beat = m.beat }
 
 -- ---- confirmations: as many as are awaited
 
@@ -218,6 +219,19 @@ flies (Past b) = 0
 abbrev pub awaited : Bool → ℕ
 awaited true = 0
 awaited false = 1
+
+-- the frame put last is the one that isn't over the bus yet, and each confirmation on its way is its own
+abbrev pub IsLast : Option Ldata → Stage → Type 0
+IsLast last (Rising cemi f) = last ≡ Some f
+IsLast last (Riding f b) = last ≡ Some f
+IsLast last (Past b) = Unit {0}
+
+abbrev pub IsItsOwn : Option Ldata → Ldata → Type 0
+IsItsOwn last y = is_con_frame y ≡ true → is_confirmation_of last (ldata_in (cemi_octets y)) ≡ true
+
+abbrev pub AreItsOwn : Option Ldata → List Ldata → Type 0
+AreItsOwn last [] = Unit {0}
+AreItsOwn last (y ∷ l) = IsItsOwn last y × AreItsOwn last l
 
 -- ---- what rides on the tunnel: the client's frame that isn't over the bus yet, and the frames on their way to the client, the oldest first
 
@@ -283,6 +297,7 @@ pub record Early (stage : Stage) (pulse : Pulse) (m : Nums) (now : ℕ) : Type 0
   pub put_is : m.put ≡ 0
   pub acked_is : m.acked ≡ None
   pub confirmed_is : m.confirmed ≡ true
+  pub last_is : m.last ≡ None
   pub heard_is : m.heard ≡ now
 
 abbrev pub IsFree : Under → Type 0
@@ -335,6 +350,7 @@ pub record Goes (E : Option Ldata → List Ldata → Type 0) (door : Door) (stag
   pub end_is : end_got r ≡ None
   pub reads : ReadsAs stage
   pub counts : awaited m.confirmed ≡ flies stage + (con_under under + cons_in waiting)
+  pub own : IsLast m.last stage × AreItsOwn m.last (queue_of under waiting)
   pub acked : (m.confirmed ≡ true) ⊎ ((m.acked ≡ None) ⊎ (m.acked ≡ Some now))
   pub fits : AllFit waiting
   pub heard : now ≤ m.heard + longest_silence
@@ -415,6 +431,7 @@ rides_over E F r t to g =
         end_is = h.end_is;
         reads = h.reads;
         counts = h.counts;
+        own = h.own;
         acked = h.acked;
         fits = h.fits;
         heard = h.heard;

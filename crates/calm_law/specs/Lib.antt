@@ -5,3 +5,4 @@ pub mod CalmJobs
 pub mod CalmSession
 pub mod CalmEnds
 pub mod CalmChecks
+pub mod CalmCounts

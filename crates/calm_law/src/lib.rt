@@ -5,7 +5,7 @@ ghost use Rattle.std.specs.Prelude.{◌≡◌, ℕ, IfSome, List, [], ◌∷◌}
 ghost use Rattle.std.specs.List.{AllByRecursion};
 ghost use Rattle.knx_model.specs.declared.address.IndAddr.{IndAddr as Address};
 ghost use Rattle.line_model.specs.Haste.{KeepsPaces};
-ghost use Rattle.line_model.specs.Record.{record_of, tunnel_record};
+ghost use Rattle.line_model.specs.Record.{placed, record_of, tunnel_record};
 ghost use Rattle.line_model.specs.Renews.{RenewsRightly, AcknowledgesRightly};
 ghost use Rattle.line_model.specs.Sendings.{SendsRightly};
 ghost use Rattle.knx_model.specs.Device.{NonVolatile, HasCapacities};
@@ -27,6 +27,9 @@ ghost use Rattle.calm_law.specs.CalmTunnel.{AreCalm, PutsRightly, PassesIdly, Ke
 ghost use Rattle.calm_law.specs.CalmRun.{gateway, calm_run};
 ghost use Rattle.calm_law.specs.CalmLine.{HaveShortValues, PassesIdlyOnLine};
 ghost use Rattle.calm_law.specs.CalmEnds.{EndWell};
+ghost use Rattle.calm_law.specs.CalmCounts.{ComeForJobs, ComeForRequests, CostsAtMost, EachBrings, EachHeard, check_cost, load_cost};
+ghost use Rattle.knx_model.specs.declared.config.Image.{Image};
+ghost use Rattle.knx_model.specs.LoadPlan.{load_plan, check_plan};
 ghost use Rattle.calm_law.specs.CalmChecks.{ChecksExactly, HaveOneImage, IsAnsweredRightly};
 ghost use Rattle.line_model.specs.OldStoppedOrNew.{IsUntouched, RunsWhereDone, StaysDone};
 ghost use Rattle.calm_law.specs.CalmJobs.{HavePower, IsPromptClient};
@@ -68,6 +71,20 @@ pub fn time_passes_where_nothing_is_awaited_on_the_line()
         → KeepsItsChannel (record_of start events) }
 {}
 
+/// And until the client asks its channel to end, it gets no more datagrams there than these, the answers to its heartbeats aside: the connect response, for each
+/// request that it put the acknowledgement and the confirmation, and one for each frame of a device.
+pub fn datagrams_come_for_requests_alone()
+    ensures { (start : World) (events : List Event) → IsFresh start → IsLegalOnLine Commissions start events → AreCalmEvents start events → HaveShortValues start
+        → RenewsRightly (record_of start events) → SendsRightly (record_of start events) → AcknowledgesRightly (record_of start events) → KeepsPaces (record_of start events) → PutsRightly (record_of start events)
+        → ComeForRequests (record_of start events) }
+{}
+
+/// What the plan of a load and that of a check bring at most, whatever is answered, by the lengths of the image's lists.
+pub fn plans_cost_by_their_lists()
+    ensures loads { (image : Image) → CostsAtMost (load_plan image) (load_cost image) }
+    ensures checks { (image : Image) → CostsAtMost (check_plan image) (check_cost image) }
+{}
+
 /// Where events follow a script that disturbs nothing, all of them are calm.
 pub fn undisturbing_scripts_are_calm()
     ensures { (script : Script) (start : World) (events : List Event) → IsUndisturbed script → IsLegalOnLine Commissions start events → Follows script Commissions start events → AreCalmEvents start events }
@@ -77,7 +94,9 @@ pub fn undisturbing_scripts_are_calm()
 /// there and serve their plans, time passes only where nothing is awaited and no job that is held has begun; and no job fails and no group telegram
 /// is lost. So it is over every order of the events, with any number of workers. A job is refused only where its device, with what it kept when the
 /// job was taken, doesn't answer the whole plan as wanted. So each job that is over was told done or refused, and one that a device answers wholly,
-/// whatever it keeps, was told done. And no try to get a channel fails.
+/// whatever it keeps, was told done; and none brought more datagrams than its plan does, and
+/// frames of a device are taken only while a job of it is held: so until the channel is asked to end, all the jobs together bring no more than their plans do.
+/// And no try to get a channel fails.
 pub fn nothing_fails_on_a_calm_line()
     ensures prompt { (jobs : List Job) (turns : List GroupTurn) (start : World) (events : List Event) (log : List LogEntry) → AllByRecursion IsServedJob jobs → HasDevices jobs start → HavePower start
         → IsPromptClient jobs turns start events log → AreCalmEvents start events → HaveShortValues start → IsPrompt jobs start log events }
@@ -85,6 +104,12 @@ pub fn nothing_fails_on_a_calm_line()
         → IsPromptClient jobs turns start events log → AreCalmEvents start events → HaveShortValues start → RefusesRightly jobs start events log }
     ensures ended { (jobs : List Job) (turns : List GroupTurn) (start : World) (events : List Event) (log : List LogEntry) → AllByRecursion IsServedJob jobs → HasDevices jobs start → HavePower start
         → IsPromptClient jobs turns start events log → AreCalmEvents start events → HaveShortValues start → EndWell jobs log }
+    ensures brings { (jobs : List Job) (turns : List GroupTurn) (start : World) (events : List Event) (log : List LogEntry) → AllByRecursion IsServedJob jobs → HasDevices jobs start → HavePower start
+        → IsPromptClient jobs turns start events log → AreCalmEvents start events → HaveShortValues start → EachBrings jobs (placed start events) log }
+    ensures heard { (jobs : List Job) (turns : List GroupTurn) (start : World) (events : List Event) (log : List LogEntry) → AllByRecursion IsServedJob jobs → HasDevices jobs start → HavePower start
+        → IsPromptClient jobs turns start events log → AreCalmEvents start events → HaveShortValues start → EachHeard jobs start log (placed start events) }
+    ensures shared { (jobs : List Job) (turns : List GroupTurn) (start : World) (events : List Event) (log : List LogEntry) → AllByRecursion IsServedJob jobs → HasDevices jobs start → HavePower start
+        → IsPromptClient jobs turns start events log → AreCalmEvents start events → HaveShortValues start → ComeForJobs jobs start (record_of start events) }
     ensures reached { (jobs : List Job) (turns : List GroupTurn) (start : World) (events : List Event) (log : List LogEntry) → AllByRecursion IsServedJob jobs → HasDevices jobs start → HavePower start
         → IsPromptClient jobs turns start events log → AreCalmEvents start events → HaveShortValues start → tries (record_of start events) ≡ [] }
 {}

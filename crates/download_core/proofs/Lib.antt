@@ -31,3 +31,4 @@ mod Running
 mod Exactly
 mod Decided
 mod Turns
+pub mod Going

@@ -9,3 +9,4 @@ pub mod Record
 pub mod Follows
 pub mod Tells
 pub mod Turns
+pub mod Going

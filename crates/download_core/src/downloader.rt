@@ -2,20 +2,22 @@
 
 ghost use Rattle.std.specs.Prelude.{◌≡◌};
 ghost use Rattle.download_core.specs.declared.signs.Signs.TheVariants.{Zero};
-ghost use Rattle.download_core.specs.JobPlans.{job_left};
+ghost use Rattle.download_core.specs.JobPlans.{job_count, job_left};
 ghost use Rattle.download_core.specs.Attempt.{Resting};
 ghost use Rattle.download_core.specs.Calls.{confirmed, taken, lost, phase_deadline};
+ghost use Rattle.download_core.specs.Going.{TellsGone, gone_in};
 ghost use Rattle.download_core.specs.Keeps.{state_of};
 ghost use Rattle.download_core.specs.Steps.{next_did, closing_did, ended_did, failed_did, sent, stepped};
 
 use crate::did::Did;
 use crate::flight::Flight;
+use crate::gone::Gone;
 use crate::job_plan::JobPlan;
 use crate::outcome::Outcome;
 use crate::phase::Phase;
 use crate::run::Run;
 use crate::signs::Signs;
-use knx_model::{IndAddr, Sign};
+use knx_model::{IndAddr, PlanSource, Sign};
 use std::marker::Model;
 use std::mem;
 use transport_conn::{connect, disconnect};
@@ -115,6 +117,22 @@ impl Downloader {
         ensures { result ≡ phase_deadline (state_of self.now).phase }
     {
         self.phase.deadline()
+    }
+
+    /// How far the job has come in the attempt that runs, or before the first.
+    pub fn gone(&self) -> Option<Gone>
+        ensures { TellsGone self.now.device (gone_in (state_of self.now).phase) (job_count self.now.plan) result }
+    {
+        let all = self.plan.len();
+        let done = self.phase.gone()?;
+        if done > all {
+            return None;
+        }
+        Some(Gone {
+            device: self.device,
+            done,
+            all,
+        })
     }
 
     /// What was to be sent was put.

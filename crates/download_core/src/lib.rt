@@ -17,6 +17,7 @@
 mod did;
 mod downloader;
 mod flight;
+mod gone;
 mod job_plan;
 mod laws;
 mod outcome;
@@ -33,6 +34,7 @@ pub use did::Did;
 pub use download_plan::{CheckPlan, LoadPlan};
 pub use downloader::Downloader;
 pub use flight::Flight;
+pub use gone::Gone;
 pub use job_plan::JobPlan;
 pub use laws::{
     each_operation_can_be_sent, ends_are_told_truly, flights_are_known, follows_the_record,

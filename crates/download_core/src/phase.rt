@@ -5,6 +5,7 @@ ghost use Rattle.knx_model.specs.Connection.{frame_in};
 ghost use Rattle.knx_model.specs.Plans.{Plan};
 ghost use Rattle.download_core.specs.JobPlans.{job_left};
 ghost use Rattle.download_core.specs.Calls.{phase_confirmed, phase_heard, phase_lost, phase_deadline};
+ghost use Rattle.download_core.specs.Going.{gone_in};
 ghost use Rattle.download_core.specs.Keeps.{phase_of, KeepsPhase};
 
 use crate::flight::Flight;
@@ -78,6 +79,17 @@ impl Phase {
         match self {
             Phase::Running(run) => run.conn.deadline(),
             Phase::Resting | Phase::Closing { .. } | Phase::Leaving(_) | Phase::Ended(_) => None,
+        }
+    }
+
+    /// How many operations are over in the attempt that runs, and 0 before the first.
+    pub fn gone(&self) -> Option<u32>
+        ensures { (left : ℕ → Plan) → result ≡ gone_in (phase_of left self.now) }
+    {
+        match self {
+            Phase::Resting => Some(0),
+            Phase::Running(run) => run.gone(),
+            Phase::Closing { .. } | Phase::Leaving(_) | Phase::Ended(_) => None,
         }
     }
 }

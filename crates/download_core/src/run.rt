@@ -6,6 +6,7 @@ ghost use Rattle.knx_model.specs.Plans.{Plan};
 ghost use Rattle.download_core.specs.JobPlans.{job_left};
 ghost use Rattle.download_core.specs.Attempt.{Running, first_attempt, is_over, comes_to, answered, or_else, refusal};
 ghost use Rattle.download_core.specs.Calls.{attempt_confirmed, phase_heard, owing};
+ghost use Rattle.download_core.specs.Going.{gone_of};
 ghost use Rattle.download_core.specs.Keeps.{phase_of, attempt_of, standing_of, KeepsRun, KeepsPhase};
 
 use crate::flight::Flight;
@@ -156,6 +157,19 @@ impl Run {
             Some(wrong) => Outcome::Refused(wrong.copied()),
             None if self.is_over(plan) => Outcome::Done,
             None => Outcome::Failed(sign),
+        }
+    }
+
+    /// How many operations are over; None where an answer wasn't the expected one.
+    pub fn gone(&self) -> Option<u32>
+        ensures { (left : ℕ → Plan) → result ≡ gone_of (attempt_of left self.now) }
+    {
+        if self.wrong.is_some() {
+            return None;
+        }
+        match &self.position {
+            Position::Next(_) => Some(self.sent),
+            Position::AnswerOf(_) => Some(self.sent.saturating_sub(1)),
         }
     }
 

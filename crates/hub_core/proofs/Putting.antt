@@ -9,8 +9,8 @@ use Rattle.line_model.specs.LinkStory.{Story, places_in, newest_time, IsPlace}
 use Rattle.line_model.specs.Moments.{Moment, moments, time}
 use Rattle.line_model.specs.Log.{Job}
 use Rattle.line_model.specs.Signs.{Every}
-use Rattle.line_model.specs.ClientView.{ClientChannel, Fresh, Sought, RefusedBy, Unanswered, Open, Lost, Deed, Puts, Takes, Loses, Nothing, channel, deed, deed_of}
-use Rattle.line_model.specs.ChannelLost.{is_lost, delivers, expected}
+use Rattle.line_model.specs.ClientView.{ClientChannel, Fresh, Sought, RefusedBy, Unanswered, Open, Lost, Deed, Puts, Takes, Loses, Nothing, as_counted, channel, deed, deed_of}
+use Rattle.line_model.specs.ChannelLost.{is_lost, last_frame, delivers, expected}
 use Rattle.line_model.specs.Reading.{RequestFrame, request_in}
 use Rattle.line_model.specs.Asks.{HasPlace, IsRightRequest, moment_of}
 use Rattle.line_model.specs.Ends.{BeginsSo}
@@ -33,6 +33,7 @@ use Rattle.hub_core.proofs.Counting.{place_counts, place_grows}
 use Rattle.hub_core.proofs.Following.{newest}
 use Rattle.hub_core.proofs.Keeps.{books_later, tells_same, same_log, Tolds, HastensOn, Opens, Stays, moved}
 use Rattle.hub_core.proofs.Quiet.{quiet_told, quiet_runs}
+use Rattle.tunnel_link.proofs.PutLast.{counted_puts}
 use Rattle.hub_core.proofs.Requests.{Each, Single, single, request_right}
 use Rattle.hub_core.proofs.Taking.{NoneGot}
 use Rattle.hub_core.specs.Taking.{SameWork}
@@ -52,9 +53,9 @@ got_puts (Sought since) octets now cemi e = let z : Nothing ≡ Puts cemi = e in
 got_puts (RefusedBy status) octets now cemi e = let z : Nothing ≡ Puts cemi = e in cc
 got_puts Unanswered octets now cemi e = let z : Nothing ≡ Puts cemi = e in cc
 got_puts (Open c l) octets now cemi e = by_loss (is_lost c l (entry (Got octets) now)) e where
-  by_loss : (b : Bool) → cond {A = Deed} b Loses (deed_of Takes (delivers c (expected c l) (request_in (Rattle.line_model.specs.Record.got_in (Got octets)))) (request_in (Rattle.line_model.specs.Record.got_in (Got octets)))) ≡ Puts cemi → ⊥
+  by_loss : (b : Bool) → cond {A = Deed} b Loses (as_counted (last_frame c l) (deed_of Takes (delivers c (expected c l) (request_in (Rattle.line_model.specs.Record.got_in (Got octets)))) (request_in (Rattle.line_model.specs.Record.got_in (Got octets))))) ≡ Puts cemi → ⊥
   by_loss true e = let z : Loses ≡ Puts cemi = e in cc
-  by_loss false e = takes_only (delivers c (expected c l) (request_in (Rattle.line_model.specs.Record.got_in (Got octets)))) (request_in (Rattle.line_model.specs.Record.got_in (Got octets))) cemi e
+  by_loss false e = takes_only (delivers c (expected c l) (request_in (Rattle.line_model.specs.Record.got_in (Got octets)))) (request_in (Rattle.line_model.specs.Record.got_in (Got octets))) cemi (counted_puts (last_frame c l) (deed_of Takes (delivers c (expected c l) (request_in (Rattle.line_model.specs.Record.got_in (Got octets)))) (request_in (Rattle.line_model.specs.Record.got_in (Got octets)))) cemi e)
 got_puts (Lost c) octets now cemi e = let z : Nothing ≡ Puts cemi = e in cc
 
 puts_got : (ch : ClientChannel) (what : Item) (now : ℕ) (cemi : List ℕ) → deed ch (entry what now) ≡ Puts cemi → is_got what ≡ false

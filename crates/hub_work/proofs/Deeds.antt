@@ -17,7 +17,7 @@ use Rattle.download_core.specs.Follows.{IsMoment}
 use Rattle.hub_work.specs.Fits.{in_flight, flies_after}
 use Rattle.hub_work.specs.Follows.{IsAside, Does, Unread}
 use Rattle.hub_work.specs.Comes.{IsNothing, Confirms, Hears, PutsTo}
-use Rattle.hub_work.specs.Requests.{request_with}
+use Rattle.line_frames.specs.Requests.{request_with}
 use Rattle.hub_work.specs.Telegrams.{IsRequestOf}
 
 -- ---- what was taken

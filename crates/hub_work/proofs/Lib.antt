@@ -2,7 +2,7 @@ mod Ranges
 pub mod Books
 mod Between
 mod Deeds
-mod HeldJobs
+pub mod HeldJobs
 mod Changed
 mod Stages
 mod Begun

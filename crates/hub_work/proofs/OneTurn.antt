@@ -30,7 +30,7 @@ use Rattle.hub_work.specs.Laws.{Laws}
 use Rattle.hub_work.specs.Fits.{Fits, FitsJob, FitsTelegram}
 use Rattle.hub_work.specs.Follows.{TurnFollows, TellsTruly}
 use Rattle.hub_work.specs.Journals.{Written}
-use Rattle.hub_work.specs.Requests.{request_with}
+use Rattle.line_frames.specs.Requests.{request_with}
 use Rattle.hub_work.specs.Telegrams.{Telling}
 use Rattle.hub_work.specs.Works.{KeepsBooks, SameBooks}
 use Rattle.hub_work.proofs.Crews.{IsHeldSo, held_so}

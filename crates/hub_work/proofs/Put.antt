@@ -34,7 +34,7 @@ use Rattle.hub_work.specs.Laws.{Laws}
 use Rattle.hub_work.specs.Fits.{Fits, FitsJob, FitsTelegram, in_flight}
 use Rattle.hub_work.specs.Follows.{IsNew, PutFollows}
 use Rattle.hub_work.specs.Comes.{PutsTo}
-use Rattle.hub_work.specs.Requests.{request_with}
+use Rattle.line_frames.specs.Requests.{request_with}
 use Rattle.hub_work.specs.Journals.{Written}
 use Rattle.hub_work.specs.Telegrams.{Telling}
 use Rattle.hub_work.specs.Works.{KeepsBooks, SameBooks}

@@ -16,3 +16,4 @@ pub mod Closes
 pub mod Polls
 pub mod Came
 pub mod CameFor
+pub mod Going

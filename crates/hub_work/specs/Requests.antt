@@ -1,13 +1,6 @@
--- The requests that a hub puts (KNX standard 3/6/3, common EMI), and which group telegrams can be sent (ISO/IEC 14543-3-1, application layer).
-use Rattle.std.specs.Prelude.{ℕ, Bool, false, List}
-use Rattle.knx_model.specs.declared.frames.cemi.Ldata.{Ldata}
-use Rattle.knx_model.specs.declared.frames.cemi.LdataCode.TheVariants.{Req}
+-- Which group telegrams can be sent (ISO/IEC 14543-3-1, application layer).
 use Rattle.knx_model.specs.DeviceFrames.{IsServiceInRange}
 use Rattle.line_model.specs.declared.group.GroupTurn.{GroupTurn}
 
 abbrev pub IsTurnInRange : GroupTurn → Type 0
 IsTurnInRange turn = IsServiceInRange turn.service
-
--- a request of low priority with this TPDU, to a device or to a group
-abbrev pub request_with : Bool → ℕ → List ℕ → Ldata
-request_with group destination tpdu = record { code = Req; error = false; group = group; priority = 3; hops = 6; source = 0; destination = destination; tpdu = tpdu }

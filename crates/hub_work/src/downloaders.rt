@@ -5,9 +5,10 @@ ghost use Rattle.download_core.specs.Attempt.{DownloaderState};
 ghost use Rattle.download_core.specs.Calls.{confirmed, taken, lost, phase_deadline};
 ghost use Rattle.download_core.specs.Steps.{next_did, stepped};
 ghost use Rattle.hub_work.specs.Downloaders.{changed, downloader_of, states, new_of_job};
+ghost use Rattle.hub_work.specs.Going.{HasGone};
 
 use crate::job::HubJob;
-use download_core::{Did, Downloader};
+use download_core::{Did, Downloader, Gone};
 use knx_model::{List, NoMemory};
 use std::alloc::Global;
 use std::marker::Model;
@@ -54,6 +55,14 @@ impl Downloaders {
     {
         let downloader = &self.all[self.index_of(job)?];
         downloader.deadline()
+    }
+
+    /// How far a job has come.
+    pub fn gone(&self, job: u32) -> Option<Gone>
+        ensures { IfSome result (HasGone self.now job) }
+    {
+        let downloader = &self.all[self.index_of(job)?];
+        downloader.gone()
     }
 
     /// The job's downloader does what is to be done at this time.

@@ -1,6 +1,7 @@
 //! The log as it is written.
 
-ghost use Rattle.std.specs.Prelude.{◌≡◌, ◌+◌, ◌<◌, ◌≤◌, [], ◌∷◌, length, reverse, IfOk};
+ghost use Rattle.std.specs.Prelude.{◌≡◌, ◌+◌, ◌<◌, ◌≤◌, [], ◌∷◌, length, reverse, IfOk, IfSome, None, Some};
+ghost use Rattle.hub_work.specs.Journals.{newest};
 
 use knx_model::{List, NoMemory};
 use line_model::{LogEntry, LogWhat};
@@ -47,6 +48,14 @@ impl Journal {
         ensures small { result < 18446744073709551615 }
     {
         self.entries.len()
+    }
+
+    /// The newest entry.
+    pub fn newest(&self) -> Option<&LogEntry>
+        ensures some { IfSome result (λ e. newest self.now.entries ≡ Some e.now) }
+        ensures none { result ≡ None → self.now.entries ≡ [] }
+    {
+        self.entries.last()
     }
 
     /// The entries, the oldest first.

@@ -17,7 +17,8 @@ mod work;
 
 pub use answers::Turned;
 pub use closing::Closing;
-pub use download_core::{CheckPlan, JobPlan, LoadPlan};
+pub use crew::Held;
+pub use download_core::{CheckPlan, Gone, JobPlan, LoadPlan};
 pub use job::HubJob;
 pub use laws::{moments_go_on, places_are_free};
 pub use line_model::{GroupTurn, Indication, LogEntry, LogWhat};

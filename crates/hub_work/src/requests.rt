@@ -7,17 +7,12 @@ ghost use Rattle.line_model.specs.ClientView.{indication_of};
 ghost use Rattle.line_model.specs.Told.{service_of};
 ghost use Rattle.line_model.specs.Reading.{ldata_in};
 ghost use Rattle.knx_model.specs.ApduReading.{apdu_octets};
-ghost use Rattle.hub_work.specs.Requests.{request_with};
+ghost use Rattle.line_frames.specs.Requests.{request_with};
 
 use apdu_frames::{group_service_in, service_octets};
-use cemi_frames::encode;
 use knx_model::{Apdu, ApduOctets, Datagram, GroupAddr, GroupService, IndAddr, Ldata, LdataCode};
-use line_model::{GroupTurn, Indication, frames_are_read};
-
-/// Low priority.
-const PRIORITY: u8 = 3;
-
-const HOP_COUNT: u8 = 6;
+use line_frames::request;
+use line_model::{GroupTurn, Indication};
 
 /// The cEMI octets that ask for a frame with this TPDU to one device.
 pub fn to_device(device: IndAddr, tpdu: ApduOctets) -> Datagram
@@ -39,25 +34,6 @@ pub fn to_group(turn: &GroupTurn) -> Datagram
         turn.group.raw,
         service_octets(service_of(&turn.service)),
     )
-}
-
-fn request(group: bool, destination: u16, tpdu: ApduOctets) -> Datagram
-    requires some { 1 ≤ length tpdu }
-    ensures cemi { IsCemi result }
-    ensures reads { ldata_in result ≡ Some (request_with group destination tpdu) }
-{
-    frames_are_read();
-    let _len = tpdu.len();
-    encode(&Ldata {
-        code: LdataCode::Req,
-        error: false,
-        group,
-        priority: PRIORITY,
-        hops: HOP_COUNT,
-        source: 0,
-        destination,
-        tpdu,
-    })
 }
 
 /// The service of a group telegram.

@@ -21,6 +21,11 @@ same_status status.Flooded = refl
 same_status status.WrongLine = refl
 same_status status.OpenTurns = refl
 same_status status.NothingFound = refl
+same_status status.NoUnit = refl
+same_status status.Several = refl
+same_status status.Taken = refl
+same_status status.Unconfirmed = refl
+same_status status.TunnelLost = refl
 
 -- what is told as a number is the status of that number
 pub told : (s : Status) (number : ℕ) → number ≡ status_number s → status_of number ≡ s

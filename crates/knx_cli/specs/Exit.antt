@@ -8,7 +8,7 @@ abbrev pub statuses : List Status
 statuses =
     status.Done ∷ status.SomeFailed ∷ status.Usage ∷ status.Project ∷ status.Catalogue ∷ status.Script ∷ status.Read ∷ status.Write
     ∷ status.NoMemory tt ∷ status.Link ∷ status.GatewayRefused ∷ status.Flooded ∷ status.WrongLine ∷ status.OpenTurns
-    ∷ status.NothingFound ∷ []
+    ∷ status.NothingFound ∷ status.NoUnit ∷ status.Several ∷ status.Taken ∷ status.Unconfirmed ∷ status.TunnelLost ∷ []
 
 -- the status of a number
 abbrev pub status_of : ℕ → Status

@@ -5,12 +5,15 @@ ghost use Rattle.call_words.specs.declared.stop.Stop.TheVariants.{Usage, NoMemor
 ghost use Rattle.knx_model.specs.Outside.{one_more};
 ghost use Rattle.call_words.specs.Statuses.{status_number};
 ghost use Rattle.knx_top.specs.declared.ending.End.TheVariants.{Stops};
-ghost use Rattle.knx_top.specs.Call.{AtMostOneRose, HasRunOf, files_of, touches};
-ghost use Rattle.knx_top.specs.Command.{asked, Big as AskedBig, Check as AskedCheck, Decode as AskedDecode, Download as AskedDownload, Find as AskedFind, Gateway as AskedGateway, Sim as AskedSim, Tables as AskedTables};
+ghost use Rattle.knx_top.specs.Call.{AtMostOneRose, HasRunOf, files_of, touches, touches_units};
+ghost use Rattle.knx_top.specs.Command.{asked, Assign as AskedAssign, AssignSim as AskedAssignSim, Big as AskedBig, Check as AskedCheck, Decode as AskedDecode, Download as AskedDownload, Find as AskedFind, Gateway as AskedGateway, Sim as AskedSim, Tables as AskedTables};
 ghost use Rattle.knx_top.specs.Ending.{Replies};
 ghost use Rattle.knx_top.specs.Headline.{ActsOnce, BeganRightly, ClosesToItsEnd, EndsEveryJob, EndsThoroughly, HasFaultRight, HasLostNoTime, HasOldStoppedOrNew, HasTelegramsRight, IsOfItsWorkers, IsToldRightly, LeavesItsChannel, RunsWhereDone};
 ghost use Rattle.knx_top.specs.Ran.{FaultsOfLine};
 ghost use Rattle.knx_top.specs.Undisturbed.{EndsUndisturbed};
+ghost use Rattle.knx_top.specs.Watched.{TellsWatcher, is_quiet};
+ghost use Rattle.line_model.specs.Watched.{watch_in};
+ghost use Rattle.knx_top.specs.commands.Assign.{AssignSimWords, AssignWords, RunsAssign, RunsAssignSim};
 ghost use Rattle.knx_top.specs.commands.Big.{BigWords, RunsMade};
 ghost use Rattle.knx_top.specs.commands.Check.{IsCountsText};
 ghost use Rattle.knx_top.specs.commands.Decode.{TellsOfFrame};
@@ -24,8 +27,8 @@ ghost use Rattle.knx_cli.specs.Exit.{status_of};
 
 use call_words::Status;
 use knx_model::{Files, NoMemory, Sink};
-use knx_top::{NO_MEMORY, Report, SimBus, knx};
-use line_model::{Dialer, Gate};
+use knx_top::{AddressBus, NO_MEMORY, Report, SimBus, knx};
+use line_model::{Dialer, Gate, Watcher};
 use std::alloc::Global;
 use std::sync::Wait;
 use std::thread::Threads;
@@ -43,15 +46,24 @@ fn without_words<K: Sink>(want: NoMemory, out: &mut K) -> u8
 }
 
 /// The exit status of the program: that of the call with its words, or where memory is wanting for them, that.
-pub fn status_of<R: Threads + Wait + Sync, F: Files, K: Sink, D: Dialer, G: Gate + Sync>(
+pub fn status_of<
+    R: Threads + Wait + Sync,
+    F: Files,
+    K: Sink,
+    D: Dialer,
+    G: Gate + Sync,
+    W: Watcher + Send,
+>(
     rt: &R,
     alloc: Global,
     words: &Result<Vec<String>, NoMemory>,
     files: &mut F,
     out: &mut K,
     sim: &mut SimBus,
+    units: &mut AddressBus,
     dial: &mut D,
     gate: &G,
+    watch: &mut Option<W>,
     last: &mut Option<Report>,
 ) -> u8
     ensures numbered { result ≡ status_number (status_of result) }
@@ -63,6 +75,8 @@ pub fn status_of<R: Threads + Wait + Sync, F: Files, K: Sink, D: Dialer, G: Gate
     ensures download { IfOk words.now (λ words. (names : DownloadWords) → asked (map string_bytes words.items) ≡ Some (AskedDownload names) → RunsDialled names (F.now files.old) (F.now files.new) (D.now dial.old) (D.now dial.new) last.new (Replies (K.now out.old) (K.now out.new) (status_of result))) }
     ensures gateway { IfOk words.now (λ words. (names : GatewayWords) → asked (map string_bytes words.items) ≡ Some (AskedGateway names) → RunsGateway names (F.now files.old) (F.now files.new) (D.now dial.old) (D.now dial.new) sim.old sim.new (Replies (K.now out.old) (K.now out.new) (status_of result))) }
     ensures find { IfOk words.now (λ words. (names : FindWords) → asked (map string_bytes words.items) ≡ Some (AskedFind names) → RunsFind names (D.now dial.old) (D.now dial.new) (Replies (K.now out.old) (K.now out.new) (status_of result))) }
+    ensures assign { IfOk words.now (λ words. (names : AssignWords) → asked (map string_bytes words.items) ≡ Some (AskedAssign names) → RunsAssign names (D.now dial.old) (D.now dial.new) (Replies (K.now out.old) (K.now out.new) (status_of result))) }
+    ensures assign_sim { IfOk words.now (λ words. (names : AssignSimWords) → asked (map string_bytes words.items) ≡ Some (AskedAssignSim names) → RunsAssignSim names (F.now files.old) (F.now files.new) units.old units.new (Replies (K.now out.old) (K.now out.new) (status_of result))) }
     ensures big { IfOk words.now (λ words. (names : BigWords) → asked (map string_bytes words.items) ≡ Some (AskedBig names) → RunsMade names sim.old (record { line = sim.new; report = last.new }) (Replies (K.now out.old) (K.now out.new) (status_of result))) }
     ensures begins { IfOk words.now (λ words. HasRunOf BeganRightly (map string_bytes words.items) (F.now files.old) sim.old (record { line = sim.new; report = last.new })) }
     ensures old_stopped_or_new { IfOk words.now (λ words. HasRunOf HasOldStoppedOrNew (map string_bytes words.items) (F.now files.old) sim.old (record { line = sim.new; report = last.new })) }
@@ -81,12 +95,14 @@ pub fn status_of<R: Threads + Wait + Sync, F: Files, K: Sink, D: Dialer, G: Gate
     ensures link { IfOk words.now (λ words. (touches (asked (map string_bytes words.items))).line ≡ true → FaultsOfLine last.new sim.new) }
     ensures line { IfOk words.now (λ words. (touches (asked (map string_bytes words.items))).line ≡ false → sim.new ≡ sim.old) }
     ensures undialled { IfOk words.now (λ words. (touches (asked (map string_bytes words.items))).network ≡ false → dial.new ≡ dial.old) }
+    ensures units { IfOk words.now (λ words. touches_units (asked (map string_bytes words.items)) ≡ false → units.new ≡ units.old) }
     ensures no_run { IfOk words.now (λ words. (touches (asked (map string_bytes words.items))).run ≡ false → last.new ≡ None) }
+    ensures watched { IfOk words.now (λ words. TellsWatcher (is_quiet (asked (map string_bytes words.items))) last.new (watch_in W.watch watch.old) (watch_in W.watch watch.new)) }
     ensures files { (name : List ℕ) → (F.now files.new).file name ≡ (F.now files.old).file name }
     ensures reads { IfOk words.now (λ words. (F.now files.new).reads ≤ (F.now files.old).reads + length (files_of (asked (map string_bytes words.items)))) }
     ensures faults { IfOk words.now (λ _. AtMostOneRose (F.now files.old).faults (F.now files.new).faults) }
     // where memory is wanting for the words, that is told, and nothing else is done
-    ensures untouched { IfErr words.now (λ _. (files.new ≡ files.old) × (sim.new ≡ sim.old) × (dial.new ≡ dial.old) × (last.new ≡ last.old)) }
+    ensures untouched { IfErr words.now (λ _. (files.new ≡ files.old) × (sim.new ≡ sim.old) × (units.new ≡ units.old) × (dial.new ≡ dial.old) × (watch.new ≡ watch.old) × (last.new ≡ last.old)) }
     ensures wanting { IfErr words.now (λ _. Replies (K.now out.old) (K.now out.new) (status_of result) (Stops (Wanting tt))) }
     ensures written { (K.now out.new).writes ≡ one_more (K.now out.old).writes }
 {
@@ -98,8 +114,10 @@ pub fn status_of<R: Threads + Wait + Sync, F: Files, K: Sink, D: Dialer, G: Gate
             files,
             out,
             sim,
+            units,
             dial,
             gate,
+            watch,
             last,
         )
         .number(),

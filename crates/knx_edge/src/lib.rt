@@ -1,4 +1,5 @@
-//! The edge of the program: files on disk, the output, the words of the command line, and UDP sockets, each as the trait that the top call takes.
+//! The edge of the program: files on disk, the output, the words of the command line, UDP sockets, and the terminal that shows a run, each as the trait that the
+//! top call takes.
 #![tactic(auto)]
 
 mod clients;
@@ -7,6 +8,7 @@ mod disk;
 mod link;
 mod output;
 mod port;
+mod screen;
 mod socket;
 #[cfg(test)]
 mod stops;
@@ -17,5 +19,6 @@ pub use disk::Disk;
 pub use link::UdpLink;
 pub use output::{Output, Steady};
 pub use port::UdpPort;
+pub use screen::Screen;
 pub use socket::Datagrams;
 pub use words::words_of;

@@ -3,7 +3,7 @@ use Rattle.std.proofs.Common.{◌≡◌, true, false, List, Option, Some, None, 
 use Rattle.std.specs.Prelude.{IfSome}
 use Rattle.knx_top.specs.Call.{AtMostOneRose, AtPort, Does, Elsewhere, HasRun, HasRunMade, HasRunOf, NoRun, Outside, left_in, touches}
 use Rattle.bus_sim.specs.Loaded.{BusNow}
-use Rattle.knx_top.specs.Command.{Big, Check, Command, Decode, Find, Gateway, Sim, Tables, asked, Download}
+use Rattle.knx_top.specs.Command.{Assign, AssignSim, Big, Check, Command, Decode, Find, Gateway, Sim, Tables, asked, Download}
 use Rattle.knx_top.specs.declared.ending.End.{End}
 use Rattle.knx_top.specs.Ran.{FaultsOfLine, Ran, Left, Commission}
 use Rattle.knx_model.specs.Counts.{counts_of}
@@ -12,9 +12,10 @@ use Rattle.knx_top.specs.Ending.{Is, report_in, wanting}
 use Rattle.call_words.specs.declared.job_word.JobWord.{JobWord}
 use Rattle.line_model.specs.declared.log.Report.{Report}
 use Rattle.bus_sim.specs.RunNow.{RunNow}
-use Rattle.knx_top.specs.Input.{first_some}
+use Rattle.knx_top.specs.Input.{failed, first_some}
 use Rattle.knx_top.specs.declared.commands.sim.SimTexts.{SimTexts}
 use Rattle.call_words.specs.declared.stop.Stop.{Stop}
+use Rattle.knx_top.proofs.commands.Assigns.{assign_sim_written, assign_written}
 use Rattle.knx_top.proofs.commands.Bigs.{made_written, report_summed}
 use Rattle.knx_top.proofs.commands.Downloads.{dialled_written}
 use Rattle.knx_top.proofs.commands.Decodes.{frame_written}
@@ -25,6 +26,7 @@ use Rattle.knx_top.proofs.commands.Sims.{script_written}
 use Rattle.knx_top.proofs.Ends.{stopped_report}
 use Rattle.call_words.specs.declared.stop.Stop.TheVariants as stop
 use Rattle.knx_top.specs.declared.ending.End.TheVariants as ends
+use Rattle.knx_top.specs.commands.Assign.{AssignSimWords, AssignWords, RunsAssign, RunsAssignSim}
 use Rattle.knx_top.specs.commands.Big.{BigWords, RunsMade, commission_made, made, summed}
 use Rattle.knx_top.specs.commands.Check.{IsCountsText}
 use Rattle.knx_top.specs.commands.Tables.{IsTablesText}
@@ -45,6 +47,8 @@ written (Decode word) before after end Replied does replied = (frame_written wor
 written (Download words) before after end Replied does replied = (dialled_written words before.files after.files before.dialer after.dialer after.report end Replied does.0 replied, does.1)
 written (Gateway words) before after end Replied does replied = (gateway_written words before.files after.files before.dialer after.dialer before.line after.line end Replied does.0 replied, does.1)
 written (Find words) before after end Replied does replied = (find_written words before.dialer after.dialer end Replied does.0 replied, does.1, does.2)
+written (Assign words) before after end Replied does replied = (assign_written words before.dialer after.dialer end Replied does.0 replied, does.1, does.2)
+written (AssignSim words) before after end Replied does replied = (assign_sim_written words before.files after.files before.units after.units end Replied does.0 replied, does.1)
 written (Big words) before after end Replied does replied = (made_written words before.line (left_in after) end Replied does.0 replied, does.1, does.2)
 
 -- ---- each clause of the whole call
@@ -74,6 +78,8 @@ link_of (Some (Decode word)) before after Replied does touched = absurd (let e :
 link_of (Some (Download words)) before after Replied does touched = absurd (let e : false ≡ true = touched in cc)
 link_of (Some (Gateway words)) before after Replied does touched = subst (λ (report : Option Report). FaultsOfLine report after.line) (sym does.1) tt
 link_of (Some (Find words)) before after Replied does touched = absurd (let e : false ≡ true = touched in cc)
+link_of (Some (Assign words)) before after Replied does touched = absurd (let e : false ≡ true = touched in cc)
+link_of (Some (AssignSim words)) before after Replied does touched = absurd (let e : false ≡ true = touched in cc)
 link_of (Some (Big words)) before after Replied does touched = does.2
 
 pub download_of : (command : Option Command) (before after : Outside) (Replied : End → Type 0) (words : DownloadWords) → Does command before after Replied → command ≡ Some (Download words)
@@ -86,6 +92,13 @@ gateway_of command before after Replied words does e = (subst (λ (o : Option Co
 
 pub find_of : (command : Option Command) (before after : Outside) (Replied : End → Type 0) (words : FindWords) → Does command before after Replied → command ≡ Some (Find words) → RunsFind words before.dialer after.dialer Replied
 find_of command before after Replied words does e = (subst (λ (o : Option Command). Does o before after Replied) e does).0
+
+pub assign_of : (command : Option Command) (before after : Outside) (Replied : End → Type 0) (words : AssignWords) → Does command before after Replied → command ≡ Some (Assign words) → RunsAssign words before.dialer after.dialer Replied
+assign_of command before after Replied words does e = (subst (λ (o : Option Command). Does o before after Replied) e does).0
+
+pub assign_sim_of : (command : Option Command) (before after : Outside) (Replied : End → Type 0) (words : AssignSimWords) → Does command before after Replied → command ≡ Some (AssignSim words)
+    → RunsAssignSim words before.files after.files before.units after.units Replied
+assign_sim_of command before after Replied words does e = (subst (λ (o : Option Command). Does o before after Replied) e does).0
 
 pub big_of : (command : Option Command) (before after : Outside) (Replied : End → Type 0) (words : BigWords) → Does command before after Replied → command ≡ Some (Big words) → RunsMade words before.line (left_in after) Replied
 big_of command before after Replied words does e = (subst (λ (o : Option Command). Does o before after Replied) e does).0
@@ -100,6 +113,8 @@ line_of (Some (Decode word)) before after Replied does untouched = does.2.line
 line_of (Some (Download words)) before after Replied does untouched = does.1
 line_of (Some (Gateway words)) before after Replied does untouched = absurd (let e : true ≡ false = untouched in cc)
 line_of (Some (Find words)) before after Replied does untouched = does.2.line
+line_of (Some (Assign words)) before after Replied does untouched = does.2.line
+line_of (Some (AssignSim words)) before after Replied does untouched = does.1.line
 line_of (Some (Big words)) before after Replied does untouched = absurd (let e : true ≡ false = untouched in cc)
 
 pub no_run_of : (command : Option Command) (before after : Outside) (Replied : End → Type 0) → Does command before after Replied → (touches command).run ≡ false → after.report ≡ None
@@ -111,6 +126,8 @@ no_run_of (Some (Decode word)) before after Replied does untouched = does.2.repo
 no_run_of (Some (Download words)) before after Replied does untouched = absurd (let e : true ≡ false = untouched in cc)
 no_run_of (Some (Gateway words)) before after Replied does untouched = does.1
 no_run_of (Some (Find words)) before after Replied does untouched = does.2.report
+no_run_of (Some (Assign words)) before after Replied does untouched = does.2.report
+no_run_of (Some (AssignSim words)) before after Replied does untouched = does.1.report
 no_run_of (Some (Big words)) before after Replied does untouched = absurd (let e : true ≡ false = untouched in cc)
 
 pub faults_in : (command : Option Command) (before after : Outside) (Replied : End → Type 0) → Does command before after Replied → AtMostOneRose before.files.faults after.files.faults
@@ -122,6 +139,8 @@ faults_in (Some (Decode word)) before after Replied does = (None, does.1)
 faults_in (Some (Download words)) before after Replied does = (failed_of_project (project_named words) does.0.texts, does.0.counts)
 faults_in (Some (Gateway words)) before after Replied does = (failed_of_gateway words does.0.texts, does.0.counts)
 faults_in (Some (Find words)) before after Replied does = (None, does.1)
+faults_in (Some (Assign words)) before after Replied does = (None, does.1)
+faults_in (Some (AssignSim words)) before after Replied does = (failed (Some words.units) does.0.reading, does.0.counts)
 faults_in (Some (Big words)) before after Replied does = (None, does.1)
 
 -- ---- what is so of each run
@@ -145,6 +164,7 @@ begun_of P Told get words names files before after texts (ends.Reports told) rep
 begun_of P Told get words names files before after texts (ends.Sums told counts) report tells e is passes runs = absurd runs
 begun_of P Told get words names files before after texts (ends.Serves served) report tells e is passes runs = absurd runs
 begun_of P Told get words names files before after texts (ends.Finds searched) report tells e is passes runs = absurd runs
+begun_of P Told get words names files before after texts (ends.Assigns given) report tells e is passes runs = absurd runs
 
 tested : (P : Commission → RunNow → Report → Type 0) (Told : Report → Type 0) → OfEach P Told
     → (tests : Option Stop) (words : List (List ℕ)) (names : SimWords) (files files' : FilesNow) (before : BusNow) (after : Left) (Replied : End → Type 0) → ((end : End) → Replied end → TellsIts Told end) → (run : RunsScript names files files' before after Replied)
@@ -162,6 +182,7 @@ made_of P Told get words names files before after (ends.Reports told) report tel
 made_of P Told get words names files before after (ends.Sums told counts) report tells e runs = absurd runs
 made_of P Told get words names files before after (ends.Serves served) report tells e runs = absurd runs
 made_of P Told get words names files before after (ends.Finds searched) report tells e runs = absurd runs
+made_of P Told get words names files before after (ends.Assigns given) report tells e runs = absurd runs
 
 ran_in : (P : Commission → RunNow → Report → Type 0) (Told : Report → Type 0) → OfEach P Told
     → (command : Option Command) (words : List (List ℕ)) (before after : Outside) (Replied : End → Type 0) → ((end : End) → Replied end → TellsIts Told end) → asked words ≡ command → Does command before after Replied → HasRunOf P words before.files before.line (left_in after)
@@ -173,6 +194,8 @@ ran_in P Told get (Some (Decode word)) words before after Replied tells e does =
 ran_in P Told get (Some (Download names)) words before after Replied tells e does = Elsewhere names e does.1
 ran_in P Told get (Some (Gateway names)) words before after Replied tells e does = AtPort names e does.1
 ran_in P Told get (Some (Find names)) words before after Replied tells e does = NoRun does.2
+ran_in P Told get (Some (Assign names)) words before after Replied tells e does = NoRun does.2
+ran_in P Told get (Some (AssignSim names)) words before after Replied tells e does = NoRun does.1
 ran_in P Told get (Some (Big names)) words before after Replied tells e does =
     let run = does.0 in
     let told : TellsIts Told run.end = subst (λ (report : Option Report). IfSome report Told) (report_summed (counts_of (made names)) run.end) (tells (summed (counts_of (made names)) run.end) run.replied) in

@@ -23,7 +23,7 @@ use Rattle.knx_top.proofs.Undisturbed.{Laws, ends_undisturbed}
 
 -- ---- the jobs are those that the words name
 
-on_line : (new old : Installation) (jobs : List Job) (words : List JobWord) → ArePlanned new jobs words → AllByRecursion (λ (job : JobWord). is_on_bus new old job.device.raw ≡ true) words → AllByRecursion (λ (job : Job). is_on_bus new old job.device.raw ≡ true) jobs
+pub on_line : (new old : Installation) (jobs : List Job) (words : List JobWord) → ArePlanned new jobs words → AllByRecursion (λ (job : JobWord). is_on_bus new old job.device.raw ≡ true) words → AllByRecursion (λ (job : Job). is_on_bus new old job.device.raw ≡ true) jobs
 on_line new old [] [] h on = tt
 on_line new old [] (w ∷ ws) h on = absurd h
 on_line new old (j ∷ js) [] h on = absurd h
@@ -35,7 +35,7 @@ plain : (failed : Bool) (ending : Status) → ending ≡ cond failed status.Some
 plain true ending is = inr is
 plain false ending is = inl is
 
-never_more : (n : ℕ) → n ≡ flood → n < flood → ⊥
+pub never_more : (n : ℕ) → n ≡ flood → n < flood → ⊥
 never_more n is few = let less : flood < flood = subst (λ (k : ℕ). k < flood) is few in omega (arith, less)
 
 -- ---- all of it

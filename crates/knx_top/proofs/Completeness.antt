@@ -96,6 +96,7 @@ memory_told (ends.Reports told) h = absurd h
 memory_told (ends.Sums told counts) h = absurd h
 memory_told (ends.Serves served) h = absurd h
 memory_told (ends.Finds searched) h = absurd h
+memory_told (ends.Assigns given) h = absurd h
 
 pub ended : (end : End) (out out' : SinkNow) (ending : Status) → ¬ Rose out.faults out'.faults → Replies out out' ending end → ending ≡ end_status end
 ended end out out' ending still (inl wrote) = wrote.0
@@ -111,6 +112,7 @@ told_whole IsText (ends.Reports told) out out' ending still h replied = absurd h
 told_whole IsText (ends.Sums told counts) out out' ending still h replied = absurd h
 told_whole IsText (ends.Serves served) out out' ending still h replied = absurd h
 told_whole IsText (ends.Finds searched) out out' ending still h replied = absurd h
+told_whole IsText (ends.Assigns given) out out' ending still h replied = absurd h
 
 -- by what came of both files
 by_readings : (IsText : Installation → List ℕ → Type 0) (words : ProjectWords) (files files' : FilesNow) (out out' : SinkNow) (ending : Status)

@@ -22,6 +22,7 @@ stop_wants why (ends.Reports told) h = absurd h
 stop_wants why (ends.Sums told counts) h = absurd h
 stop_wants why (ends.Serves served) h = absurd h
 stop_wants why (ends.Finds searched) h = absurd h
+stop_wants why (ends.Assigns given) h = absurd h
 
 -- the same run
 pub report_wants : (end : End) → report_in (wanting end) ≡ report_in end
@@ -33,6 +34,7 @@ report_wants (ends.Reports told) = refl
 report_wants (ends.Sums told counts) = refl
 report_wants (ends.Serves served) = refl
 report_wants (ends.Finds searched) = refl
+report_wants (ends.Assigns given) = refl
 
 -- a call that stopped has none
 pub stopped_report : (why : Stop) (end : End) → StopsFor why end → report_in end ≡ None
@@ -44,6 +46,7 @@ stopped_report why (ends.Reports told) h = absurd h
 stopped_report why (ends.Sums told counts) h = absurd h
 stopped_report why (ends.Serves served) h = absurd h
 stopped_report why (ends.Finds searched) h = absurd h
+stopped_report why (ends.Assigns given) h = absurd h
 
 -- a text is written, or that there was no memory for it
 pub text_replied : (end : End) (text : Result Text NoMemory) (out out' : SinkNow) (told : Status) → IfOk text (λ p. IsTextOf end p.octets p.status)

@@ -33,6 +33,7 @@ run_told c before after (ends.Reports told) out out' ending still runs report (i
 run_told c before after (ends.Sums told counts) out out' ending still runs report replied = absurd runs
 run_told c before after (ends.Serves served) out out' ending still runs report replied = absurd runs
 run_told c before after (ends.Finds searched) out out' ending still runs report replied = absurd runs
+run_told c before after (ends.Assigns given) out out' ending still runs report replied = absurd runs
 
 sums_told : (counts : Counts) (c : Commission) (before : BusNow) (after : Left) (end : End) (out out' : SinkNow) (ending : Status) → ¬ Rose out.faults out'.faults → Runs c before after.line end → after.report ≡ report_in end
     → Replies out out' ending (summed counts end) → IsRunTold (λ told. ends.Sums told counts) c after out out' ending
@@ -45,6 +46,7 @@ sums_told counts c before after (ends.Reports told) out out' ending still runs r
 sums_told counts c before after (ends.Sums told counted) out out' ending still runs report replied = absurd runs
 sums_told counts c before after (ends.Serves served) out out' ending still runs report replied = absurd runs
 sums_told counts c before after (ends.Finds searched) out out' ending still runs report replied = absurd runs
+sums_told counts c before after (ends.Assigns given) out out' ending still runs report replied = absurd runs
 
 pub made_told : (words : BigWords) (before : BusNow) (after : Left) (out out' : SinkNow) (ending : Status) → ¬ Rose out.faults out'.faults → RunsMade words before after (Replies out out' ending)
     → IsRunTold (λ told. ends.Sums told (counts_of (made words))) (commission_made words) after out out' ending
@@ -52,15 +54,15 @@ made_told words before after out out' ending still t = sums_told (counts_of (mad
 
 -- ---- the first test that wants memory
 
-wants_now : (test : Option Stop) (tests : List (Option Stop)) → test ≡ Some (stop.NoMemory tt) → first_some (test ∷ tests) ≡ Some (stop.NoMemory tt)
+pub wants_now : (test : Option Stop) (tests : List (Option Stop)) → test ≡ Some (stop.NoMemory tt) → first_some (test ∷ tests) ≡ Some (stop.NoMemory tt)
 wants_now None tests e = absurd cc
 wants_now (Some why) tests e = e
 
-wants_later : (test : Option Stop) (tests : List (Option Stop)) → test ≡ None → first_some tests ≡ Some (stop.NoMemory tt) → first_some (test ∷ tests) ≡ Some (stop.NoMemory tt)
+pub wants_later : (test : Option Stop) (tests : List (Option Stop)) → test ≡ None → first_some tests ≡ Some (stop.NoMemory tt) → first_some (test ∷ tests) ≡ Some (stop.NoMemory tt)
 wants_later None tests e later = later
 wants_later (Some why) tests e later = absurd cc
 
-one_none : {A : Type 0} (one : Option A) (others : List (Option A)) → first_some (one ∷ others) ≡ None → (one ≡ None) × (first_some others ≡ None)
+pub one_none : {A : Type 0} (one : Option A) (others : List (Option A)) → first_some (one ∷ others) ≡ None → (one ≡ None) × (first_some others ≡ None)
 one_none None others e = (refl, e)
 one_none (Some x) others e = absurd cc
 

@@ -89,6 +89,7 @@ runs_so c before after report jobs turns devices log (ends.Reports told) ran com
 runs_so c before after report jobs turns devices log (ends.Sums told counts) ran compiled many logs shows = absurd shows
 runs_so c before after report jobs turns devices log (ends.Serves served) ran compiled many logs shows = absurd shows
 runs_so c before after report jobs turns devices log (ends.Finds searched) ran compiled many logs shows = absurd shows
+runs_so c before after report jobs turns devices log (ends.Assigns given) ran compiled many logs shows = absurd shows
 
 -- it is told with the same fault
 pub fault_so : (r : RunNow) (report : Report) (jobs : List JobWord) (turns : ℕ) (devices : List (IndAddr × Option Image)) (log : Bool) (end : End) (after : BusNow) → ShowsRun r report jobs turns devices log end
@@ -101,3 +102,4 @@ fault_so r report jobs turns devices log (ends.Reports told) after shows cause =
 fault_so r report jobs turns devices log (ends.Sums told counts) after shows cause = absurd shows
 fault_so r report jobs turns devices log (ends.Serves served) after shows cause = absurd shows
 fault_so r report jobs turns devices log (ends.Finds searched) after shows cause = absurd shows
+fault_so r report jobs turns devices log (ends.Assigns given) after shows cause = absurd shows

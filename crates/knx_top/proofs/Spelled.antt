@@ -3,7 +3,7 @@ use Rattle.std.proofs.Common.{ℕ, ◌≡◌, ◌↔◌, Bool, true, false, code
 use Rattle.std.specs.Prelude.{bytes_eq, if◌then◌else◌, option_and_then}
 use Rattle.std.specs.Option.{option_map}
 use Rattle.std.proofs.lemmas.Slice.Eq.{bytes_eq-Decides}
-use Rattle.knx_top.specs.Command.{Command, Check, Tables, Sim, Decode, SpellsCommand, SpellsCheck, SpellsTables, SpellsSim, SpellsDecode, SpellsDownload, SpellsGateway, SpellsSearch, SpellsDescription, SpellsBig, Big, Download, Find, Gateway, asked}
+use Rattle.knx_top.specs.Command.{Command, Check, Tables, Sim, Decode, SpellsCommand, SpellsCheck, SpellsTables, SpellsSim, SpellsDecode, SpellsDownload, SpellsGateway, SpellsSearch, SpellsDescription, SpellsAssign, SpellsAssignSim, SpellsBig, Assign, AssignSim, Big, Download, Find, Gateway, asked, assign_asked, other_asked}
 use Rattle.line_model.specs.Dialled.{Address}
 use Rattle.knx_top.specs.Fronts.{Spells, SpellsAll}
 use Rattle.knx_top.specs.Host.{address_value}
@@ -11,6 +11,9 @@ use Rattle.knx_top.proofs.ReadBy.{AreApart, all_from, all_to, fronts, none_begin
 use Rattle.knx_top.specs.commands.Project.{ProjectWords, project_words}
 use Rattle.knx_top.specs.Options.{SimOptions, from_1_to, no_options, project_options, project_rows, run_rows, sim_options}
 use Rattle.knx_top.specs.commands.Sim.{SimWords, sim_words}
+use Rattle.knx_model.specs.Addresses.{ind_value}
+use Rattle.knx_model.specs.declared.address.IndAddr.{IndAddr}
+use Rattle.knx_top.specs.commands.Assign.{AssignSimWords, AssignWords, assign_sim_words, assign_words}
 use Rattle.knx_top.specs.commands.Big.{BigWords, big_words, most_devices, start_value}
 use Rattle.knx_top.specs.commands.Download.{DownloadWords, download_words}
 use Rattle.discovery.specs.declared.inquiry.Inquiry.{Inquiry}
@@ -50,6 +53,8 @@ asked_from words command (SpellsDownload address new others at options is o) = r
 asked_from words command (SpellsGateway address old script number others at turns options is number_is o) = rw (is, turns_from number turns number_is, project_from others options o) refl
 asked_from words command (SpellsSearch address at is) = rw is refl
 asked_from words command (SpellsDescription address at is) = rw is refl
+asked_from words command (SpellsAssign address wanted at ia is ia_is) = rw (is, ia_is) refl
+asked_from words command (SpellsAssignSim units wanted ia ia_is) = rw ia_is refl
 asked_from words command (SpellsBig number start devices from is start_is) = rw (is, start_is) refl
 
 -- ---- from the command that is asked
@@ -158,6 +163,35 @@ find_of_words (address ∷ []) command e = find_to (address_value address) addre
 find_of_words (address ∷ word ∷ []) command e = word_to (bytes_eq word (codes "describe")) address word command refl e
 find_of_words (address ∷ word ∷ more ∷ others) command e = absurd (no_inquiry (address_value address) command e)
 
+abbrev assign_with : Address → Option IndAddr → Option AssignWords
+assign_with at ia = option_map (λ (x : IndAddr). let w : AssignWords = record { at = at; wanted = x } in w) ia
+
+assign_to : (at : Option Address) (ia : Option IndAddr) (address wanted : List ℕ) (command : Command) → address_value address ≡ at → ind_value wanted ≡ ia
+    → option_map Assign (option_and_then (λ (to : Address). assign_with to ia) at) ≡ Some command → SpellsCommand (codes "assign" ∷ address ∷ wanted ∷ []) command
+assign_to None ia address wanted command is ia_is e = absurd cc
+assign_to (Some at) None address wanted command is ia_is e = absurd cc
+assign_to (Some at) (Some ia) address wanted command is ia_is e =
+    subst (λ (c : Command). SpellsCommand (codes "assign" ∷ address ∷ wanted ∷ []) c) (some_command (Assign (record { at = at; wanted = ia })) command e) (SpellsAssign address wanted at ia is ia_is)
+
+assign_sim_to : (ia : Option IndAddr) (units wanted : List ℕ) (command : Command) → ind_value wanted ≡ ia
+    → option_map AssignSim (option_map (λ (x : IndAddr). let w : AssignSimWords = record { units = units; wanted = x } in w) ia) ≡ Some command → SpellsCommand (codes "assign" ∷ codes "sim" ∷ units ∷ wanted ∷ []) command
+assign_sim_to None units wanted command ia_is e = absurd cc
+assign_sim_to (Some ia) units wanted command ia_is e =
+    subst (λ (c : Command). SpellsCommand (codes "assign" ∷ codes "sim" ∷ units ∷ wanted ∷ []) c) (some_command (AssignSim (record { units = units; wanted = ia })) command e) (SpellsAssignSim units wanted ia ia_is)
+
+sim_word_to : (is : Bool) (sim units wanted : List ℕ) (command : Command) → bytes_eq sim (codes "sim") ≡ is
+    → (if is then option_map AssignSim (assign_sim_words units wanted) else None) ≡ Some command → SpellsCommand (codes "assign" ∷ sim ∷ units ∷ wanted ∷ []) command
+sim_word_to false sim units wanted command same e = absurd cc
+sim_word_to true sim units wanted command same e =
+    subst (λ (w : List ℕ). SpellsCommand (codes "assign" ∷ w ∷ units ∷ wanted ∷ []) command) (sym ((bytes_eq-Decides sim (codes "sim")).0 same)) (assign_sim_to (ind_value wanted) units wanted command refl e)
+
+assign_of_words : (words : List (List ℕ)) (command : Command) → assign_asked words ≡ Some command → SpellsCommand (codes "assign" ∷ words) command
+assign_of_words [] command e = absurd cc
+assign_of_words (address ∷ []) command e = absurd cc
+assign_of_words (address ∷ wanted ∷ []) command e = assign_to (address_value address) (ind_value wanted) address wanted command refl refl e
+assign_of_words (sim ∷ units ∷ wanted ∷ []) command e = sim_word_to (bytes_eq sim (codes "sim")) sim units wanted command refl e
+assign_of_words (sim ∷ units ∷ wanted ∷ more ∷ others) command e = absurd cc
+
 abbrev big_with : ℕ → Option ℕ → Option BigWords
 big_with devices from = option_map (λ (x : ℕ). let w : BigWords = record { devices = devices; start = x } in w) from
 
@@ -192,8 +226,15 @@ asked_to false false false false false false false false first words command _ _
 
 spelled_to : (words : List (List ℕ)) (command : Command) → asked words ≡ Some command → SpellsCommand words command
 spelled_to [] command e = absurd cc
-spelled_to (first ∷ words) command e =
-    asked_to (bytes_eq first (codes "check")) (bytes_eq first (codes "tables")) (bytes_eq first (codes "sim")) (bytes_eq first (codes "decode")) (bytes_eq first (codes "download")) (bytes_eq first (codes "gateway")) (bytes_eq first (codes "find")) (bytes_eq first (codes "big")) first words command refl refl refl refl refl refl refl refl e
+spelled_to (first ∷ words) command e = assign_or_other (bytes_eq first (codes "assign")) first words command refl e
+  where
+    other_to : (first : List ℕ) (words : List (List ℕ)) (command : Command) → other_asked first words ≡ Some command → SpellsCommand (first ∷ words) command
+    other_to first words command e =
+        asked_to (bytes_eq first (codes "check")) (bytes_eq first (codes "tables")) (bytes_eq first (codes "sim")) (bytes_eq first (codes "decode")) (bytes_eq first (codes "download")) (bytes_eq first (codes "gateway")) (bytes_eq first (codes "find")) (bytes_eq first (codes "big")) first words command refl refl refl refl refl refl refl refl e
+
+    assign_or_other : (is : Bool) (first : List ℕ) (words : List (List ℕ)) (command : Command) → bytes_eq first (codes "assign") ≡ is → (if is then assign_asked words else other_asked first words) ≡ Some command → SpellsCommand (first ∷ words) command
+    assign_or_other true first words command is e = headed first (codes "assign") words command is (assign_of_words words command e)
+    assign_or_other false first words command is e = other_to first words command e
 
 pub commands : (words : List (List ℕ)) (command : Command) → (asked words ≡ Some command) ↔ SpellsCommand words command
 commands words command = (spelled_to words command, asked_from words command)

@@ -34,6 +34,7 @@ answers_with out out' ending (ends.Sums told counts) (inl wrote) = inl wrote.0
 answers_with out out' ending (ends.Sums told counts) (inr refused) = inr (inr refused.0)
 answers_with out out' ending (ends.Serves served) replied = tt
 answers_with out out' ending (ends.Finds searched) replied = tt
+answers_with out out' ending (ends.Assigns given) replied = tt
 
 -- ---- of a run that nothing disturbs
 

@@ -337,7 +337,7 @@ module _ (laws : Laws) (c : Commission) (r : RunNow) (report : Report) (words : 
     ends_now : EndsSo ran.jobs c.turns r (log_in report) report.fault
     ends_now = ends report.fault refl ran.told.fault
 
-    nothing_fails : (ending : Status) → AnswersWith ending report → NothingFails ending ran.jobs c.turns r report
+    pub nothing_fails : (ending : Status) → AnswersWith ending report → NothingFails ending ran.jobs c.turns r report
     nothing_fails ending answered = record {
       prompt = idle;
       refuses = laws.refuses ran.jobs c.turns (start r) r.events (log_in report) each_served devices power by calm short;

@@ -1,4 +1,5 @@
 -- Each command, from what was read to how the call ends.
+pub mod Assigns
 pub mod Bigs
 pub mod Decodes
 pub mod Downloads

@@ -1,9 +1,11 @@
 -- What a call of the program touches, reads and does, by what its words ask for.
-use Rattle.std.specs.Prelude.{ℕ, Bool, true, false, List, [], None, Option, Some, ◌≡◌}
+use Rattle.std.specs.Prelude.{ℕ, Bool, true, false, List, [], ◌∷◌, None, Option, Some, ◌≡◌}
 use Rattle.bus_sim.specs.Loaded.{BusNow}
-use Rattle.knx_top.specs.Command.{Big, Check, Command, Decode, Download, Find, Gateway, Sim, Tables, asked}
+use Rattle.address_sim.specs.Driven.{BusNow as UnitsNow}
+use Rattle.knx_top.specs.Command.{Assign, AssignSim, Big, Check, Command, Decode, Download, Find, Gateway, Sim, Tables, asked}
 use Rattle.knx_top.specs.Ran.{Commission, FaultsOfLine, Left}
 use Rattle.line_model.specs.Dialled.{DialerNow}
+use Rattle.knx_top.specs.commands.Assign.{RunsAssign, RunsAssignSim}
 use Rattle.knx_top.specs.commands.Big.{BigWords, RunsMade, commission_made}
 use Rattle.knx_top.specs.commands.Download.{DownloadWords, RunsDialled, files_of_download}
 use Rattle.knx_top.specs.commands.Find.{RunsFind}
@@ -39,7 +41,14 @@ touches (Some (Decode word)) = record { line = false; network = false; run = fal
 touches (Some (Download words)) = record { line = false; network = true; run = true }
 touches (Some (Gateway words)) = record { line = true; network = true; run = false }
 touches (Some (Find words)) = record { line = false; network = true; run = false }
+touches (Some (Assign words)) = record { line = false; network = true; run = false }
+touches (Some (AssignSim words)) = record { line = false; network = false; run = false }
 touches (Some (Big words)) = record { line = true; network = false; run = true }
+
+-- the simulated bus of units
+abbrev pub touches_units : Option Command → Bool
+touches_units (Some (AssignSim words)) = true
+touches_units _ = false
 
 -- the files that the words name, in the order in which they are read
 abbrev pub files_of : Option Command → List (List ℕ)
@@ -51,6 +60,8 @@ files_of (Some (Decode word)) = []
 files_of (Some (Download words)) = files_of_download words
 files_of (Some (Gateway words)) = files_of_gateway words
 files_of (Some (Find words)) = []
+files_of (Some (Assign words)) = []
+files_of (Some (AssignSim words)) = words.units ∷ []
 files_of (Some (Big words)) = []
 
 -- ---- what it does
@@ -64,10 +75,12 @@ pub record HasNoRun (before : BusNow) (after : Left) : Type 0 where
 abbrev pub AtMostOneRose : (List ℕ → ℕ) → (List ℕ → ℕ) → Type 0
 AtMostOneRose faults faults' = (one : Option (List ℕ)) × OnlyRose one faults faults'
 
--- what a call finds outside, and leaves there: what the files tell, the simulated line, what the dialer tells, and the report of the run, where one was begun
+-- what a call finds outside, and leaves there: what the files tell, the simulated line, the simulated bus of units, what the dialer tells, and the report of
+-- the run, where one was begun
 pub record Outside : Type 0 where
   pub files : FilesNow
   pub line : BusNow
+  pub units : UnitsNow
   pub dialer : DialerNow
   pub report : Option Report
 
@@ -84,6 +97,8 @@ Does (Some (Decode word)) before after Replied = TellsOfFrame word Replied × On
 Does (Some (Download words)) before after Replied = RunsDialled words before.files after.files before.dialer after.dialer after.report Replied × (after.line ≡ before.line)
 Does (Some (Gateway words)) before after Replied = RunsGateway words before.files after.files before.dialer after.dialer before.line after.line Replied × (after.report ≡ None)
 Does (Some (Find words)) before after Replied = RunsFind words before.dialer after.dialer Replied × OnlyRose None before.files.faults after.files.faults × HasNoRun before.line (left_in after)
+Does (Some (Assign words)) before after Replied = RunsAssign words before.dialer after.dialer Replied × OnlyRose None before.files.faults after.files.faults × HasNoRun before.line (left_in after)
+Does (Some (AssignSim words)) before after Replied = RunsAssignSim words before.files after.files before.units after.units Replied × HasNoRun before.line (left_in after)
 Does (Some (Big words)) before after Replied = RunsMade words before.line (left_in after) Replied × OnlyRose None before.files.faults after.files.faults × FaultsOfLine after.report after.line
 
 -- ---- the run of a call

@@ -1,6 +1,9 @@
 -- What the words of a call ask for: a command with the names of its files, its options and its jobs, or nothing.
 use Rattle.std.specs.Prelude.{ℕ, List, None, Option, Some, bytes_eq, ◌≡◌, ◌∷◌, codes, [], if◌then◌else◌}
 use Rattle.line_model.specs.Dialled.{Address}
+use Rattle.knx_top.specs.commands.Assign.{AssignSimWords, AssignWords, assign_sim_words, assign_sim_words_of, assign_words, assign_words_of}
+use Rattle.knx_model.specs.Addresses.{ind_value}
+use Rattle.knx_model.specs.declared.address.IndAddr.{IndAddr}
 use Rattle.knx_top.specs.commands.Big.{BigWords, big_words, most_devices, start_value}
 use Rattle.knx_top.specs.commands.Download.{DownloadWords, download_words, download_words_of}
 use Rattle.discovery.specs.declared.inquiry.Inquiry.TheVariants.{Search, Description}
@@ -24,12 +27,14 @@ pub data Command : Type 0 where
   Download : DownloadWords → Command
   Gateway : GatewayWords → Command
   Find : FindWords → Command
+  Assign : AssignWords → Command
+  AssignSim : AssignSimWords → Command
   Big : BigWords → Command
 
 -- ---- the words that spell a command
 
 -- `check P`, `tables P`, each with its option behind, `sim NEW OLD SCRIPT` with options and jobs, `decode HEX`, `download ADDR NEW` with options and jobs,
--- `gateway ADDR OLD SCRIPT turns=N` with its option behind, `find ADDR`, `find ADDR describe`, and `big N START`
+-- `gateway ADDR OLD SCRIPT turns=N` with its option behind, `find ADDR`, `find ADDR describe`, `assign ADDR IA`, `assign sim UNITS IA`, and `big N START`
 pub data SpellsCommand : List (List ℕ) → Command → Type 0 where
   SpellsCheck : (project : List ℕ) (others : List (List ℕ)) (options : SimOptions) → SpellsAll project_rows others no_options options
       → SpellsCommand (codes "check" ∷ project ∷ others) (Check (record { project = project; catalogue = options.catalogue }))
@@ -44,15 +49,22 @@ pub data SpellsCommand : List (List ℕ) → Command → Type 0 where
       → SpellsCommand (codes "gateway" ∷ address ∷ old ∷ script ∷ number ∷ others) (Gateway (record { at = at; old = old; script = script; turns = turns; catalogue = options.catalogue }))
   SpellsSearch : (address : List ℕ) (at : Address) → address_value address ≡ Some at → SpellsCommand (codes "find" ∷ address ∷ []) (Find (record { at = at; inquiry = Search }))
   SpellsDescription : (address : List ℕ) (at : Address) → address_value address ≡ Some at → SpellsCommand (codes "find" ∷ address ∷ codes "describe" ∷ []) (Find (record { at = at; inquiry = Description }))
+  SpellsAssign : (address wanted : List ℕ) (at : Address) (ia : IndAddr) → address_value address ≡ Some at → ind_value wanted ≡ Some ia → SpellsCommand (codes "assign" ∷ address ∷ wanted ∷ []) (Assign (record { at = at; wanted = ia }))
+  SpellsAssignSim : (units wanted : List ℕ) (ia : IndAddr) → ind_value wanted ≡ Some ia → SpellsCommand (codes "assign" ∷ codes "sim" ∷ units ∷ wanted ∷ []) (AssignSim (record { units = units; wanted = ia }))
   SpellsBig : (number start : List ℕ) (devices from : ℕ) → from_1_to most_devices number ≡ Some devices → start_value start ≡ Some from
       → SpellsCommand (codes "big" ∷ number ∷ start ∷ []) (Big (record { devices = devices; start = from }))
 
 -- ---- the command that words spell, and none for other words
 
--- the command of the words; other words are no command
-abbrev pub asked : List (List ℕ) → Option Command
-asked [] = None
-asked (command ∷ words) =
+-- the command of the words behind `assign`
+abbrev pub assign_asked : List (List ℕ) → Option Command
+assign_asked (address ∷ wanted ∷ []) = option_map Assign (assign_words address wanted)
+assign_asked (sim ∷ units ∷ wanted ∷ []) = if bytes_eq sim (codes "sim") then option_map AssignSim (assign_sim_words units wanted) else None
+assign_asked _ = None
+
+-- the command of the words behind another first word
+abbrev pub other_asked : List ℕ → List (List ℕ) → Option Command
+other_asked command words =
     if bytes_eq command (codes "check") then option_map Check (project_words words)
     else (if bytes_eq command (codes "tables") then option_map Tables (project_words words)
     else (if bytes_eq command (codes "sim") then option_map Sim (sim_words words)
@@ -62,6 +74,11 @@ asked (command ∷ words) =
     else (if bytes_eq command (codes "find") then option_map Find (find_words words)
     else (if bytes_eq command (codes "big") then option_map Big (big_words words)
     else None)))))))
+
+-- the command of the words; other words are no command
+abbrev pub asked : List (List ℕ) → Option Command
+asked [] = None
+asked (command ∷ words) = if bytes_eq command (codes "assign") then assign_asked words else other_asked command words
 
 -- ---- the command in the code
 
@@ -73,4 +90,6 @@ command_of (parsed.Decode word) = Decode word.now
 command_of (parsed.Download names) = Download (download_words_of names)
 command_of (parsed.Gateway names) = Gateway (gateway_words_of names)
 command_of (parsed.Find names) = Find (find_words_of names)
+command_of (parsed.Assign names) = Assign (assign_words_of names)
+command_of (parsed.AssignSim names) = AssignSim (assign_sim_words_of names)
 command_of (parsed.Big words) = Big words

@@ -1,5 +1,5 @@
 -- How a call ends, the text that is written of that, and its status. It stops; it tells a text; a gateway isn't reached or a port not bound; a run is over,
--- and memory is wanting for what is shown of it, or it is reported, or its sums are told; or a serving or a search for gateways is over.
+-- and memory is wanting for what is shown of it, or it is reported, or its sums are told; or a serving, a search for gateways or the giving of an address is over.
 use Rattle.std.specs.Prelude.{◌≡◌, ◌⊎◌, codes, List, [], ◌∷◌, Option, Some, None, Result, Ok, Err, ℕ}
 use Rattle.std.specs.Fmt.{decimal}
 use Rattle.call_words.specs.declared.status.Status.{Status}
@@ -14,11 +14,13 @@ use Rattle.knx_model.specs.TextLines.{line}
 use Rattle.line_model.specs.declared.fault.HubFault.TheVariants.{LinkFailed}
 use Rattle.line_model.specs.declared.log.Report.{Report}
 use Rattle.report_text.specs.LineStatus.{line_status}
+use Rattle.knx_top.specs.Given.{assign_status, assign_text}
 use Rattle.knx_top.specs.Searched.{search_status, search_text}
 use Rattle.knx_top.specs.declared.ending.End.{End}
 use Rattle.knx_top.specs.declared.ending.End.TheVariants as ends
 use Rattle.knx_top.specs.declared.ending.ServiceEnd.{ServiceEnd}
 use Rattle.knx_top.specs.declared.ending.ServiceEnd.TheVariants as over
+use Rattle.knx_top.specs.declared.given.AssignEnd.TheVariants as given
 use Rattle.knx_top.specs.declared.searched.SearchEnd.TheVariants as search
 
 -- just this end
@@ -79,6 +81,7 @@ end_text (ends.Reports told) = line_report_text told.report told.jobs told.turns
 end_text (ends.Sums told counts) = sums_text told.report counts told.devices
 end_text (ends.Serves end) = service_text end
 end_text (ends.Finds end) = search_text end
+end_text (ends.Assigns end) = assign_text end
 
 abbrev pub end_status : End → Status
 end_status (ends.Stops why) = stop_status why
@@ -89,6 +92,7 @@ end_status (ends.Reports told) = line_status told.report
 end_status (ends.Sums told counts) = line_status told.report
 end_status (ends.Serves end) = service_status end
 end_status (ends.Finds end) = search_status end
+end_status (ends.Assigns end) = assign_status end
 
 -- ---- what is written
 
@@ -123,6 +127,7 @@ wanting (ends.Reports told) = ends.BreaksOff told.report tt
 wanting (ends.Sums told counts) = ends.BreaksOff told.report tt
 wanting (ends.Serves end) = ends.Serves (untold end)
 wanting (ends.Finds end) = ends.Finds (search.Untold tt)
+wanting (ends.Assigns end) = ends.Assigns (given.Untold tt)
 
 -- an end was written, or that there was no memory for its text
 abbrev pub RepliesOf : SinkNow → SinkNow → Status → End → Type 0

@@ -1,4 +1,5 @@
 pub mod Searched
+pub mod Given
 pub mod Ending
 pub mod Fronts
 pub mod Host
@@ -19,5 +20,6 @@ pub mod Begun
 pub mod Dialled
 pub mod commands
 pub mod Command
+pub mod Watched
 pub mod Call
 pub mod Complete

@@ -20,4 +20,4 @@ abbrev pub address_of : GatewayAddress → Address
 address_of at = record { host = at.host; port = at.port }
 
 abbrev pub options_of : SimOptions → asked.SimOptions
-options_of options = record { catalogue = named options.catalogue; log = options.log; workers = options.workers; jobs = options.jobs.items }
+options_of options = record { catalogue = named options.catalogue; log = options.log; quiet = options.quiet; workers = options.workers; jobs = options.jobs.items }

@@ -13,15 +13,16 @@ use Rattle.call_words.specs.declared.job_word.JobKind.TheVariants as kind
 abbrev pub from_1_to : ℕ → List ℕ → Option ℕ
 from_1_to most word = option_and_then unless_zero (up_to most (number_value word))
 
--- [catalogue=F] [log] [workers=N] and jobs, in any order
+-- [catalogue=F] [log] [quiet] [workers=N] and jobs, in any order
 pub record SimOptions : Type 0 where
   pub catalogue : Option (List ℕ)
   pub log : Bool
+  pub quiet : Bool
   pub workers : Option ℕ
   pub jobs : List JobWord
 
 abbrev pub no_options : SimOptions
-no_options = record { catalogue = None; log = false; workers = None; jobs = [] }
+no_options = record { catalogue = None; log = false; quiet = false; workers = None; jobs = [] }
 
 -- `catalogue=F`, once
 abbrev pub with_catalogue : SimOptions → List ℕ → Option SimOptions
@@ -31,6 +32,11 @@ with_catalogue options name = if is_some options.catalogue then None else Some (
 abbrev pub with_log : SimOptions → List ℕ → Option SimOptions
 with_log options [] = if options.log then None else Some (record options { log = true })
 with_log options (octet ∷ more) = None
+
+-- `quiet`, with nothing behind it, once
+abbrev pub with_quiet : SimOptions → List ℕ → Option SimOptions
+with_quiet options [] = if options.quiet then None else Some (record options { quiet = true })
+with_quiet options (octet ∷ more) = None
 
 -- at most 8 downloaders work at once, and 4 where the words name no number
 abbrev pub most_workers : ℕ
@@ -63,6 +69,7 @@ abbrev pub run_rows : SimOptions → List (Row SimOptions)
 run_rows options =
     record { front = codes "catalogue="; reads = with_catalogue options }
     ∷ record { front = codes "log"; reads = with_log options }
+    ∷ record { front = codes "quiet"; reads = with_quiet options }
     ∷ record { front = codes "workers="; reads = with_workers options }
     ∷ record { front = codes "load:"; reads = with_job kind.Load options }
     ∷ record { front = codes "check:"; reads = with_job kind.Check options }

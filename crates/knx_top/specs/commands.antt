@@ -1,4 +1,5 @@
 -- The commands: each with its words, what it reads, its tests, and what a call of it comes to.
+pub mod Assign
 pub mod Big
 pub mod Check
 pub mod Decode

@@ -6,6 +6,7 @@ ghost use Rattle.call_words.specs.ReportText.{stop_text};
 ghost use Rattle.knx_model.specs.Outside.{one_more};
 ghost use Rattle.knx_top.specs.Ending.{IsTextOf, RepliesOf, Writes, end_told, open_line, report_in};
 
+use crate::given::{AssignEnd, assign_status, assign_text};
 use crate::searched::{LINK_FAULT, SearchEnd, search_status, search_text};
 use call_words::{JobWord, Status, Stop};
 use knx_model::{Counts, List, NoMemory, Octets, Sink, put_number_word, put_word};
@@ -63,6 +64,8 @@ pub enum End {
     Serves(ServiceEnd),
     /// A search for gateways is over.
     Finds(SearchEnd),
+    /// Giving an address is over.
+    Assigns(AssignEnd),
 }
 
 impl End {
@@ -83,7 +86,12 @@ impl End {
         match self {
             End::BreaksOff(report, _) => Some(report),
             End::Reports(reported) | End::Sums(reported, _) => Some(reported.report),
-            End::Stops(_) | End::Tells(_) | End::NotOpened | End::Serves(_) | End::Finds(_) => None,
+            End::Stops(_)
+            | End::Tells(_)
+            | End::NotOpened
+            | End::Serves(_)
+            | End::Finds(_)
+            | End::Assigns(_) => None,
         }
     }
 }
@@ -138,6 +146,15 @@ fn text_of_search(alloc: Global, end: &SearchEnd) -> Result<Text, NoMemory>
 {
     let octets = search_text(alloc, end)?;
     let status = search_status(end);
+    Ok(Text { status, octets })
+}
+
+/// What is printed of giving an address.
+fn text_of_assignment(alloc: Global, end: &AssignEnd) -> Result<Text, NoMemory>
+    ensures { IfOk result (λ p. IsTextOf (End.Assigns end.now) p.octets p.status) }
+{
+    let octets = assign_text(alloc, end)?;
+    let status = assign_status(end);
     Ok(Text { status, octets })
 }
 
@@ -212,5 +229,6 @@ pub fn tell_end<K: Sink>(alloc: Global, out: &mut K, end: &End) -> Status
         End::Sums(reported, counts) => tell_or_want(out, text_of_sums(alloc, reported, *counts)),
         End::Serves(end) => tell_service(alloc, out, end),
         End::Finds(end) => tell_or_want(out, text_of_search(alloc, end)),
+        End::Assigns(end) => tell_or_want(out, text_of_assignment(alloc, end)),
     }
 }

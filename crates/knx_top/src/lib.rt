@@ -5,6 +5,7 @@ mod call;
 mod commands;
 mod complete;
 mod ending;
+mod given;
 mod host;
 mod identity;
 mod input;
@@ -15,7 +16,9 @@ mod project;
 mod searched;
 mod shown;
 mod turns;
+mod watched;
 
+pub use address_sim::AddressBus;
 pub use bus_sim::SimBus;
 pub use call::knx;
 pub use call_words::Status;

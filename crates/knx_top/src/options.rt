@@ -5,7 +5,7 @@ ghost use Rattle.std.specs.List.{starts_with};
 ghost use Rattle.std.specs.Option.{option_map};
 ghost use Rattle.knx_top.specs.Fronts.{read_by};
 ghost use Rattle.knx_top.specs.Names.{options_of, the_word};
-ghost use Rattle.knx_top.specs.Options.{from_1_to, most_workers, no_options, project_options, project_rows, run_rows, sim_options, usual_workers, with_catalogue, with_job, with_log, with_workers, workers_of};
+ghost use Rattle.knx_top.specs.Options.{from_1_to, most_workers, no_options, project_options, project_rows, run_rows, sim_options, usual_workers, with_catalogue, with_job, with_log, with_quiet, with_workers, workers_of};
 
 use arrayvec::ArrayVec;
 use call_words::{JobKind, JobWord};
@@ -73,12 +73,14 @@ impl Workers {
     }
 }
 
-/// `[catalogue=F] [log] [workers=N]` and jobs. It takes no memory.
+/// `[catalogue=F] [log] [quiet] [workers=N]` and jobs. It takes no memory.
 #[derive(Drop)]
 pub struct SimOptions<'a> {
     pub catalogue: Option<&'a str>,
     /// Whether the log is printed.
     pub log: bool,
+    /// Whether nothing is told of the run before its end.
+    pub quiet: bool,
     /// As many as the words name.
     workers: Option<Workers>,
     /// In the order of their words.
@@ -112,6 +114,7 @@ impl<'a> SimOptions<'a> {
         SimOptions {
             catalogue: None,
             log: false,
+            quiet: false,
             workers: None,
             jobs: ArrayVec::new(),
         }
@@ -136,6 +139,17 @@ impl<'a> SimOptions<'a> {
             return None;
         }
         self.log = true;
+        Some(())
+    }
+
+    /// Takes the word `quiet`, where none stands before it and nothing behind it.
+    fn take_quiet(&mut self, rest: &str) -> Option<()>
+        ensures { option_map (λ _. options_of self.new) result ≡ with_quiet (options_of self.old) rest.now }
+    {
+        if self.quiet || !rest.is_empty() {
+            return None;
+        }
+        self.quiet = true;
         Some(())
     }
 
@@ -182,6 +196,8 @@ impl<'a> SimOptions<'a> {
             self.take_catalogue(name)
         } else if let Some(rest) = behind("log", word) {
             self.take_log(rest)
+        } else if let Some(rest) = behind("quiet", word) {
+            self.take_quiet(rest)
         } else if let Some(number) = behind("workers=", word) {
             self.take_workers(number)
         } else if let Some(address) = behind("load:", word) {

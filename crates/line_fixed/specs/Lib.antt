@@ -2,3 +2,4 @@ pub mod Entries
 pub mod PortItems
 pub mod Fixed
 pub mod Dialling
+pub mod OneLine

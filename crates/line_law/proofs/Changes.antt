@@ -38,7 +38,7 @@ flight_cons base g q k puts Landed e h = (h.0, h.1, e ∙ h.2)
 flight_cons base g q k puts (Flies f Waits) e h = record { octets = h.octets; before = h.before; newest = h.newest; reads = h.reads; request = h.request; stage_is = (h.stage_is.0, h.stage_is.1, e ∙ h.stage_is.2) }
 flight_cons base g q k puts (Flies f OnBus) e h = record { octets = h.octets; before = h.before; newest = h.newest; reads = h.reads; request = h.request; stage_is = (h.stage_is.0, h.stage_is.1, e ∙ h.stage_is.2) }
 flight_cons base g q k puts (Flies f Told) e h =
-    record { octets = h.octets; before = h.before; newest = h.newest; reads = h.reads; request = h.request; stage_is = (h.stage_is.0, h.stage_is.1, h.stage_is.2, e ∙ h.stage_is.3, h.stage_is.4, h.stage_is.5) }
+    record { octets = h.octets; before = h.before; newest = h.newest; reads = h.reads; request = h.request; stage_is = (h.stage_is.0, h.stage_is.1, h.stage_is.2, e ∙ h.stage_is.3, h.stage_is.4, h.stage_is.5, h.stage_is.6) }
 flight_cons base g q k puts (Flies f Gone) e h = record { octets = h.octets; before = h.before; newest = h.newest; reads = h.reads; request = h.request; stage_is = (h.stage_is.0, h.stage_is.1, e ∙ h.stage_is.2) }
 
 pub no_more : (l : List Ldata) (f : Ldata) → IsOwn f → cons (l ++ f ∷ []) ≡ cons l

@@ -7,7 +7,7 @@ use Rattle.knx_model.specs.Cemi.{Written as cemi_octets}
 use Rattle.knx_model.specs.DeviceState.{DeviceState}
 use Rattle.knx_model.specs.DeviceFrames.{own_frame}
 use Rattle.line_model.specs.ActedOnce.{Has, in_channel, IsChannelOf}
-use Rattle.line_model.specs.ChannelLost.{confirmed}
+use Rattle.line_model.specs.ChannelLost.{confirmed, last_frame}
 use Rattle.line_model.specs.ClientView.{ClientChannel, Fresh, Sought, RefusedBy, Unanswered, Open, Lost, View, channel, views}
 use Rattle.line_model.specs.Gateway.{Channel, Gateway, number_of, newest_place}
 use Rattle.line_model.specs.Reading.{ldata_in, is_req, is_con}
@@ -66,7 +66,7 @@ pub record Serves (base : ℕ) (g : Gateway) : Type 0 where
 abbrev pub StageIs : ℕ → Gateway → List Ldata → List (List ℕ) → List (List ℕ) → Ldata → Stage → Type 0
 StageIs base g queue puts before f Waits = (in_channel base g.acted ≡ before) × (g.bus ≡ []) × (cons queue ≡ [])
 StageIs base g queue puts before f OnBus = (in_channel base g.acted ≡ puts) × (g.bus ≡ f ∷ []) × (cons queue ≡ [])
-StageIs base g queue puts before f Told = (in_channel base g.acted ≡ puts) × (g.bus ≡ []) × (con : Ldata) × (cons queue ≡ con ∷ []) × (con.group ≡ f.group) × (con.destination ≡ f.destination)
+StageIs base g queue puts before f Told = (in_channel base g.acted ≡ puts) × (g.bus ≡ []) × (con : Ldata) × (cons queue ≡ con ∷ []) × (con.group ≡ f.group) × (con.destination ≡ f.destination) × (con.tpdu ≡ f.tpdu)
 StageIs base g queue puts before f Gone = NotServing base g × (g.bus ≡ []) × (cons queue ≡ [])
 
 pub record FliesSo (base : ℕ) (g : Gateway) (queue : List Ldata) (puts : List (List ℕ)) (f : Ldata) (stage : Stage) : Type 0 where
@@ -92,9 +92,10 @@ IsOut (Open c l) = ⊥
 IsOut (Lost c) = ⊥
 IsOut _ = Unit {0}
 
--- a frame that isn't confirmed is in flight
-abbrev pub OpenIs : Bool → Flight → Type 0
-OpenIs confirmed flight = (confirmed ≡ false) ⊎ (flight ≡ Landed)
+-- a frame that isn't confirmed is in flight, and that in flight is the one put last
+abbrev pub OpenIs : Bool → Option Ldata → Flight → Type 0
+OpenIs confirmed last Landed = Unit {0}
+OpenIs confirmed last (Flies f stage) = (confirmed ≡ false) × (last ≡ Some f)
 
 -- an endpoint at which no channel came up yet is later, and so is each of its channels
 abbrev pub IsLater : ℕ → ℕ → ℕ → List ℕ → Type 0
@@ -105,7 +106,7 @@ ChannelIs base e present makers flight Fresh = IsLater base e present makers
 ChannelIs base e present makers flight (Sought since) = IsLater base e present makers
 ChannelIs base e present makers flight (RefusedBy status) = IsLater base e present makers
 ChannelIs base e present makers flight Unanswered = IsLater base e present makers
-ChannelIs base e present makers flight (Open c l) = (e ≡ present) × (c ≡ number_of base) × OpenIs (confirmed c l) flight
+ChannelIs base e present makers flight (Open c l) = (e ≡ present) × (c ≡ number_of base) × OpenIs (confirmed c l) (last_frame c l) flight
 ChannelIs base e present makers flight (Lost c) = e ≡ present
 
 abbrev pub ConAt : ℕ → ℕ × Ldata → Type 0

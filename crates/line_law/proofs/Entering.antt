@@ -3,9 +3,9 @@ use Rattle.std.proofs.Common.{◌≡◌, ℕ, suc, List, [], ◌∷◌, length, 
 use Rattle.knx_model.specs.declared.frames.cemi.Ldata.{Ldata}
 use Rattle.knx_model.specs.Plans.{Plan}
 use Rattle.line_model.specs.ActedOnce.{Has}
-use Rattle.line_model.specs.ChannelLost.{confirmed, confirms, expected, delivers, is_new_request, is_lost, is_confirmation}
+use Rattle.line_model.specs.ChannelLost.{confirmed, confirms, expected, delivers, is_new_request, last_frame, frame_in_request, is_lost, is_confirmation, is_confirmation_of}
 use Rattle.line_model.specs.ChannelLost as ChannelLost
-use Rattle.line_model.specs.ClientView.{ClientChannel, Fresh, Sought, RefusedBy, Unanswered, Open, Lost, Deed, View, or_number, view_after, channel, deed, views, after_entry, goes_on}
+use Rattle.line_model.specs.ClientView.{ClientChannel, Fresh, Sought, RefusedBy, Unanswered, Open, Lost, Deed, View, or_number, view_after, channel, traffic, deed, views, after_entry, goes_on}
 use Rattle.line_model.specs.ClientView as view
 use Rattle.line_model.specs.Gateway.{number_of}
 use Rattle.line_model.specs.Reading.{ldata_in, RequestFrame, request_in}
@@ -21,6 +21,7 @@ use Rattle.tunnel_law.proofs.Both.{unique}
 use Rattle.tunnel_law.proofs.Fits.{Book, books, BookIs, IsUp, JoinedFits, Member, Phase}
 use Rattle.tunnel_law.proofs.Law.{HeadIs, head_state}
 use Rattle.tunnel_law.proofs.Took.{InvT}
+use Rattle.line_law.proofs.Alike.{none_of}
 use Rattle.line_law.proofs.Queue.{Items}
 use Rattle.line_law.proofs.Coupled.{Last, Never, Since, IsOut, is_open, CoupledBy, IsBus, AreBus}
 use Rattle.line_law.proofs.Entries.{HeadView, views_go, Moves}
@@ -140,8 +141,8 @@ view_stays v c (view.Takes content) e h = absurd (h tt)
 view_stays v c view.Loses e h = ap (λ z. (let x : View = record { number = z; puts = v.puts; takes = v.takes } in x)) e
 view_stays v c view.Nothing e h = ap (λ z. (let x : View = record { number = z; puts = v.puts; takes = v.takes } in x)) e
 
-pub views_stay : (r : List Entry) (present : ℕ) (x : Entry) (h : HeadView r present) → is_renewal x.what ≡ false → or_number (channel (x ∷ r)) h.view.number ≡ h.view.number → (Brings (deed (channel r) x) → ⊥) → views (x ∷ r) ≡ views r
-views_stay r present x h n number none = views_go r present x h n ∙ ap (λ z. z ∷ h.rest) (view_stays h.view (channel (x ∷ r)) (deed (channel r) x) number none) ∙ sym h.is
+pub views_stay : (r : List Entry) (present : ℕ) (x : Entry) (h : HeadView r present) → is_renewal x.what ≡ false → or_number (channel (x ∷ r)) h.view.number ≡ h.view.number → (Brings (traffic (channel r) x) → ⊥) → views (x ∷ r) ≡ views r
+views_stay r present x h n number none = views_go r present x h n ∙ ap (λ z. z ∷ h.rest) (view_stays h.view (channel (x ∷ r)) (traffic (channel r) x) number none) ∙ sym h.is
 
 -- the number of the open channel
 pub number_by : (a : ℕ) (w : World) (r : List Entry) (s : SessionWorld) (c : ℕ) (l : List Entry) (items : Items) (older : List (ℕ × List ℕ)) (last : Last) (h : HeadView r w.tunnel.present) → channel r ≡ Open c l → CoupledBy a w r s items older last → h.view.number ≡ Some c
@@ -181,14 +182,14 @@ up_place k t c l is i = up_by (books k) t (channel k) k c l (head_state k) is i
 -- nothing comes, and the channel is as it was
 pub record Still (r : List Entry) (x : Entry) : Type 0 where
   pub moves : Moves (channel r) (channel (x ∷ r))
-  pub none : deed (channel r) x ≡ view.Nothing
+  pub none : traffic (channel r) x ≡ view.Nothing
 
 pub data Turn (r : List Entry) (x : Entry) : Type 0 where
   IsStill : Still r x → Turn r x
-  IsLost : (c : ℕ) (l : List Entry) → channel r ≡ Open c l → channel (x ∷ r) ≡ Lost c → deed (channel r) x ≡ view.Loses → Turn r x
-  Joins : (c : ℕ) → IsOut (channel r) → is_open (channel r) ≡ false → channel (x ∷ r) ≡ Open c (x ∷ []) → deed (channel r) x ≡ view.Nothing → Turn r x
-  Puts : (c : ℕ) (l : List Entry) (content : List ℕ) → channel r ≡ Open c l → channel (x ∷ r) ≡ Open c (x ∷ l) → deed (channel r) x ≡ view.Puts content → is_new_request c l x ≡ true → Turn r x
-  Takes : (c : ℕ) (l : List Entry) (content : List ℕ) → channel r ≡ Open c l → channel (x ∷ r) ≡ Open c (x ∷ l) → deed (channel r) x ≡ view.Takes content → (is_confirmation (ldata_in content) ≡ false → confirmed c (x ∷ l) ≡ confirmed c l) → Turn r x
+  IsLost : (c : ℕ) (l : List Entry) → channel r ≡ Open c l → channel (x ∷ r) ≡ Lost c → traffic (channel r) x ≡ view.Loses → Turn r x
+  Joins : (c : ℕ) → IsOut (channel r) → is_open (channel r) ≡ false → channel (x ∷ r) ≡ Open c (x ∷ []) → traffic (channel r) x ≡ view.Nothing → Turn r x
+  Puts : (c : ℕ) (l : List Entry) (content : List ℕ) → channel r ≡ Open c l → channel (x ∷ r) ≡ Open c (x ∷ l) → traffic (channel r) x ≡ view.Puts content → is_new_request c l x ≡ true → last_frame c (x ∷ l) ≡ ldata_in content → Turn r x
+  Takes : (c : ℕ) (l : List Entry) (content : List ℕ) → channel r ≡ Open c l → channel (x ∷ r) ≡ Open c (x ∷ l) → traffic (channel r) x ≡ view.Takes content → (is_confirmation (ldata_in content) ≡ false → confirmed c (x ∷ l) ≡ confirmed c l) → last_frame c (x ∷ l) ≡ last_frame c l → Turn r x
 
 -- without a renewal
 pub not_renewed : (c : ClientChannel) (x : Entry) → is_renewal x.what ≡ false → after_entry c x ≡ goes_on c x
@@ -196,36 +197,66 @@ unfolding after_entry
 not_renewed c x h = rw h refl
 
 -- of an open channel
-pub deed_open : (c : ℕ) (l : List Entry) (x : Entry) → is_lost c l x ≡ false → deed (Open c l) x ≡ view.deed_in c l x
-unfolding deed
+pub deed_open : (c : ℕ) (l : List Entry) (x : Entry) → is_lost c l x ≡ false → traffic (Open c l) x ≡ view.deed_in c l x
+unfolding traffic
 deed_open c l x h = rw h refl
 
-pub deed_lost : (c : ℕ) (l : List Entry) (x : Entry) → is_lost c l x ≡ true → deed (Open c l) x ≡ view.Loses
-unfolding deed
+pub deed_lost : (c : ℕ) (l : List Entry) (x : Entry) → is_lost c l x ≡ true → traffic (Open c l) x ≡ view.Loses
+unfolding traffic
 deed_lost c l x h = rw h refl
+
+-- what counts of it
+abbrev pub last_of : ClientChannel → Option Ldata
+last_of (Open c l) = last_frame c l
+last_of _ = None
+
+counted_by : (last : Option Ldata) (what : Deed) (b : Bool) → ◌≡◌ {A = Deed} (if b then view.Loses else view.as_counted last what) (view.as_counted last (if b then view.Loses else what))
+counted_by last what true = refl
+counted_by last what false = refl
+
+pub counted_is : (c : ClientChannel) (x : Entry) → deed c x ≡ view.as_counted (last_of c) (traffic c x)
+unfolding traffic deed
+counted_is Fresh x = refl
+counted_is (Sought since) x = refl
+counted_is (RefusedBy status) x = refl
+counted_is Unanswered x = refl
+counted_is (Open c l) x = counted_by (last_frame c l) (view.deed_in c l x) (is_lost c l x)
+counted_is (Lost c) x = refl
 
 -- what is put and what is taken
 pub data Brought (c : ℕ) (l : List Entry) (x : Entry) : Type 0 where
-  Neither : view.deed_in c l x ≡ view.Nothing → confirmed c (x ∷ l) ≡ confirmed c l → Brought c l x
-  Put : (content : List ℕ) → view.deed_in c l x ≡ view.Puts content → is_new_request c l x ≡ true → Brought c l x
-  Take : (content : List ℕ) → view.deed_in c l x ≡ view.Takes content → (is_confirmation (ldata_in content) ≡ false → confirmed c (x ∷ l) ≡ confirmed c l) → Brought c l x
+  Neither : view.deed_in c l x ≡ view.Nothing → confirmed c (x ∷ l) ≡ confirmed c l → last_frame c (x ∷ l) ≡ last_frame c l → Brought c l x
+  Put : (content : List ℕ) → view.deed_in c l x ≡ view.Puts content → is_new_request c l x ≡ true → last_frame c (x ∷ l) ≡ ldata_in content → Brought c l x
+  Take : (content : List ℕ) → view.deed_in c l x ≡ view.Takes content → (is_confirmation (ldata_in content) ≡ false → confirmed c (x ∷ l) ≡ confirmed c l) → last_frame c (x ∷ l) ≡ last_frame c l → Brought c l x
 
 confirmed_by : (b d e : Bool) → b ≡ false → d ≡ false → ◌≡◌ {A = Bool} (if b then false else (if d then true else e)) e
 confirmed_by b d e p q = rw p (rw q refl)
+
+last_by : (b : Bool) (o e : Option Ldata) → b ≡ false → ◌≡◌ {A = Option Ldata} (if b then o else e) e
+last_by b o e p = rw p refl
+
+last_put : (b : Bool) (o e : Option Ldata) → b ≡ true → ◌≡◌ {A = Option Ldata} (if b then o else e) o
+last_put b o e p = rw p refl
 
 no_request : (c : ℕ) (l : List Entry) (x : Entry) → request_in (put_in x.what) ≡ None → is_new_request c l x ≡ false
 no_request c l x h = ap (λ z. ChannelLost.is_request c z && ChannelLost.is_none (ChannelLost.own c l).sent) h
 
 brought_got : (c : ℕ) (l : List Entry) (x : Entry) (new : Bool) (put got : Option RequestFrame) → is_new_request c l x ≡ false → (view.deed_of view.Puts new put ≡ view.Nothing) → request_in (got_in x.what) ≡ got → view.deed_in c l x ≡ view.or_takes (view.deed_of view.Puts new put) (view.deed_of view.Takes (delivers c (expected c l) got) got) → Brought c l x
-brought_got c l x new put None fresh none g e = Neither (e ∙ ap (λ z. view.or_takes z view.Nothing) none) (confirmed_by (is_new_request c l x) (confirms c (expected c l) (request_in (got_in x.what))) (confirmed c l) fresh (ap (confirms c (expected c l)) g))
+brought_got c l x new put None fresh none g e =
+    Neither (e ∙ ap (λ z. view.or_takes z view.Nothing) none) (confirmed_by (is_new_request c l x) (confirms c (expected c l) (last_frame c l) (request_in (got_in x.what))) (confirmed c l) fresh (ap (confirms c (expected c l) (last_frame c l)) g))
+    (last_by (is_new_request c l x) (frame_in_request (request_in (put_in x.what))) (last_frame c l) fresh)
 brought_got c l x new put (Some q) fresh none g e = by_delivers (delivers c (expected c l) (Some q)) refl where
   by_delivers : (b : Bool) → delivers c (expected c l) (Some q) ≡ b → Brought c l x
   by_delivers true k =
       Take q.cemi (e ∙ ap (λ z. view.or_takes z (view.deed_of view.Takes (delivers c (expected c l) (Some q)) (Some q))) none ∙ ap (λ b. cond {A = Deed} b (view.Takes q.cemi) view.Nothing) k)
-      (λ n. confirmed_by (is_new_request c l x) (confirms c (expected c l) (request_in (got_in x.what))) (confirmed c l) fresh (ap (confirms c (expected c l)) g ∙ ap (λ b. b && is_confirmation (ldata_in q.cemi)) k ∙ n))
+      (λ n. confirmed_by (is_new_request c l x) (confirms c (expected c l) (last_frame c l) (request_in (got_in x.what))) (confirmed c l) fresh
+      (ap (confirms c (expected c l) (last_frame c l)) g ∙ ap (λ b. b && is_confirmation_of (last_frame c l) (ldata_in q.cemi)) k ∙ none_of (last_frame c l) (ldata_in q.cemi) n))
+      (last_by (is_new_request c l x) (frame_in_request (request_in (put_in x.what))) (last_frame c l) fresh)
   by_delivers false k =
       Neither (e ∙ ap (λ z. view.or_takes z (view.deed_of view.Takes (delivers c (expected c l) (Some q)) (Some q))) none ∙ ap (λ b. cond {A = Deed} b (view.Takes q.cemi) view.Nothing) k)
-      (confirmed_by (is_new_request c l x) (confirms c (expected c l) (request_in (got_in x.what))) (confirmed c l) fresh (ap (confirms c (expected c l)) g ∙ ap (λ b. b && is_confirmation (ldata_in q.cemi)) k))
+      (confirmed_by (is_new_request c l x) (confirms c (expected c l) (last_frame c l) (request_in (got_in x.what))) (confirmed c l) fresh
+      (ap (confirms c (expected c l) (last_frame c l)) g ∙ ap (λ b. b && is_confirmation_of (last_frame c l) (ldata_in q.cemi)) k))
+      (last_by (is_new_request c l x) (frame_in_request (request_in (put_in x.what))) (last_frame c l) fresh)
 
 brought_by : (c : ℕ) (l : List Entry) (x : Entry) (new : Bool) (put : Option RequestFrame) → is_new_request c l x ≡ new → request_in (put_in x.what) ≡ put → Brought c l x
 brought_by c l x new None n p =
@@ -234,6 +265,7 @@ brought_by c l x true (Some q) n p =
     Put q.cemi
     (ap (λ z. view.or_takes (view.deed_of view.Puts (is_new_request c l x) z) (view.deed_of view.Takes (delivers c (expected c l) (request_in (got_in x.what))) (request_in (got_in x.what)))) p
     ∙ ap (λ b. view.or_takes (cond {A = Deed} b (view.Puts q.cemi) view.Nothing) (view.deed_of view.Takes (delivers c (expected c l) (request_in (got_in x.what))) (request_in (got_in x.what)))) n) n
+    (last_put (is_new_request c l x) (frame_in_request (request_in (put_in x.what))) (last_frame c l) n ∙ ap frame_in_request p)
 brought_by c l x false (Some q) n p =
     brought_got c l x (is_new_request c l x) (Some q) (request_in (got_in x.what)) n (ap (λ b. cond {A = Deed} b (view.Puts q.cemi) view.Nothing) n) refl
     (ap (λ z. view.or_takes (view.deed_of view.Puts (is_new_request c l x) z) (view.deed_of view.Takes (delivers c (expected c l) (request_in (got_in x.what))) (request_in (got_in x.what)))) p)

@@ -1,8 +1,8 @@
 -- An entry of the client's record by which nothing comes or goes, the loss of the channel, and a new endpoint.
 use Rattle.std.proofs.Common.{◌≡◌, ℕ, suc, ◌+◌, ◌≤◌, List, [], ◌∷◌, length, false, Some, None, refl, sym, ◌∙◌, ap, subst, inl, inr, arith}
 use Rattle.line_model.specs.ActedOnce.{Has, IsChannelOf}
-use Rattle.line_model.specs.ChannelLost.{confirmed}
-use Rattle.line_model.specs.ClientView.{ClientChannel, Fresh, Sought, RefusedBy, Unanswered, Open, Lost, View, unused, view_after, first_view_after, channel, deed, views}
+use Rattle.line_model.specs.ChannelLost.{confirmed, last_frame}
+use Rattle.line_model.specs.ClientView.{ClientChannel, Fresh, Sought, RefusedBy, Unanswered, Open, Lost, View, unused, view_after, first_view_after, channel, traffic, views}
 use Rattle.line_model.specs.Gateway.{Gateway, number_of}
 use Rattle.line_model.specs.Record.{Entry, is_renewal}
 use Rattle.line_model.specs.Tunnel.{Tunnel}
@@ -42,8 +42,8 @@ pub at_head : (r : List Entry) (present : ℕ) (v : View) → (h : HeadView r pr
 at_head r present v h at = has_newest h.view h.rest present v (sym h.length_is) (subst (λ (z : List View). Has z present v) h.is at)
 
 -- without a renewal the present endpoint's view goes on
-pub views_go : (r : List Entry) (present : ℕ) (x : Entry) (h : HeadView r present) → is_renewal x.what ≡ false → views (x ∷ r) ≡ view_after h.view (channel (x ∷ r)) (deed (channel r) x) ∷ h.rest
-views_go r present x h n = rw n (ap (λ z. first_view_after z (channel (x ∷ r)) (deed (channel r) x)) h.is)
+pub views_go : (r : List Entry) (present : ℕ) (x : Entry) (h : HeadView r present) → is_renewal x.what ≡ false → views (x ∷ r) ≡ view_after h.view (channel (x ∷ r)) (traffic (channel r) x) ∷ h.rest
+views_go r present x h n = rw n (ap (λ z. first_view_after z (channel (x ∷ r)) (traffic (channel r) x)) h.is)
 
 -- ---- the views stay
 
@@ -51,22 +51,22 @@ views_go r present x h n = rw n (ap (λ z. first_view_after z (channel (x ∷ r)
 pub data Moves : ClientChannel → ClientChannel → Type 0 where
   Outside : {c d : ClientChannel} → ((base e present : ℕ) (makers : List ℕ) (flight : Flight) → ChannelIs base e present makers flight c → IsLater base e present makers) → ((base e present : ℕ) (makers : List ℕ) (flight : Flight) → IsLater base e present makers → ChannelIs base e present makers flight d)
       → IsOut d → is_open c ≡ false → is_open d ≡ false → Moves c d
-  Goes : {c : ℕ} {l more : List Entry} → confirmed c more ≡ confirmed c l → Moves (Open c l) (Open c more)
+  Goes : {c : ℕ} {l more : List Entry} → confirmed c more ≡ confirmed c l → last_frame c more ≡ last_frame c l → Moves (Open c l) (Open c more)
   Stays : {c : ℕ} → Moves (Lost c) (Lost c)
 
 moves_channel : {c d : ClientChannel} → Moves c d → (base e present : ℕ) (makers : List ℕ) (flight : Flight) → ChannelIs base e present makers flight c → ChannelIs base e present makers flight d
 moves_channel (Outside f g o p q) base e present makers flight h = g base e present makers flight (f base e present makers flight h)
-moves_channel (Goes {c} {l} {more} same) base e present makers flight h = (h.0, h.1, subst (λ z. OpenIs z flight) (sym same) h.2)
+moves_channel (Goes {c} {l} {more} same last) base e present makers flight h = (h.0, h.1, subst (λ y. OpenIs (confirmed c more) y flight) (sym last) (subst (λ z. OpenIs z (last_frame c l) flight) (sym same) h.2))
 moves_channel Stays base e present makers flight h = h
 
 moves_out : {c d : ClientChannel} → Moves c d → IsOut c → IsOut d
 moves_out (Outside f g o p q) h = o
-moves_out (Goes same) h = absurd h
+moves_out (Goes same last) h = absurd h
 moves_out Stays h = absurd h
 
 moves_open : {c d : ClientChannel} → Moves c d → is_open d ≡ is_open c
 moves_open (Outside f g o p q) = q ∙ sym p
-moves_open (Goes same) = refl
+moves_open (Goes same last) = refl
 moves_open Stays = refl
 
 same_channel : (g : Gateway) (r k : List Entry) (n : ℕ) (other : View) → views k ≡ views r → IsChannelOf g k n other → IsChannelOf g r n other

@@ -29,7 +29,7 @@ flight_to base g n q k puts Landed a b c f h = (a ∙ h.0, b ∙ h.1, c ∙ h.2)
 flight_to base g n q k puts (Flies x Waits) a b c f h = record { octets = h.octets; before = h.before; newest = h.newest; reads = h.reads; request = h.request; stage_is = (a ∙ h.stage_is.0, b ∙ h.stage_is.1, c ∙ h.stage_is.2) }
 flight_to base g n q k puts (Flies x OnBus) a b c f h = record { octets = h.octets; before = h.before; newest = h.newest; reads = h.reads; request = h.request; stage_is = (a ∙ h.stage_is.0, b ∙ h.stage_is.1, c ∙ h.stage_is.2) }
 flight_to base g n q k puts (Flies x Told) a b c f h =
-    record { octets = h.octets; before = h.before; newest = h.newest; reads = h.reads; request = h.request; stage_is = (a ∙ h.stage_is.0, b ∙ h.stage_is.1, h.stage_is.2, c ∙ h.stage_is.3, h.stage_is.4, h.stage_is.5) }
+    record { octets = h.octets; before = h.before; newest = h.newest; reads = h.reads; request = h.request; stage_is = (a ∙ h.stage_is.0, b ∙ h.stage_is.1, h.stage_is.2, c ∙ h.stage_is.3, h.stage_is.4, h.stage_is.5, h.stage_is.6) }
 flight_to base g n q k puts (Flies x Gone) a b c f h = record { octets = h.octets; before = h.before; newest = h.newest; reads = h.reads; request = h.request; stage_is = (f h.stage_is.0, b ∙ h.stage_is.1, c ∙ h.stage_is.2) }
 
 -- ---- its channel goes on
@@ -137,7 +137,7 @@ shut_flight base g items puts (Flies f Told) h =
       | inr one ↦
           record {
             after = Flies f Told;
-            is = record { octets = h.octets; before = h.before; newest = h.newest; reads = h.reads; request = h.request; stage_is = (h.stage_is.0, refl, con, one, h.stage_is.4, h.stage_is.5) };
+            is = record { octets = h.octets; before = h.before; newest = h.newest; reads = h.reads; request = h.request; stage_is = (h.stage_is.0, refl, con, one, h.stage_is.4, h.stage_is.5, h.stage_is.6) };
             same = λ a e v x. x;
             flies = λ a address e v flying. tt;
             channel = λ e present makers c x. x;

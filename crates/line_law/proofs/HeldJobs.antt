@@ -58,7 +58,7 @@ pub record EntryGoes (jobs : List Job) (log : List LogEntry) (a : ℕ) (w : Worl
 
 pub moves_number : {c d : ClientChannel} → Moves c d → (number : Option ℕ) → ((n : ℕ) (l : List Entry) → c ≡ Open n l → number ≡ Some n) → or_number d number ≡ number
 moves_number (Outside {c} {d} f g o p q) number h = number_stays d number q
-moves_number (Goes {c} {l} {more} same) number h = sym (h c l refl)
+moves_number (Goes {c} {l} {more} same last) number h = sym (h c l refl)
 moves_number Stays number h = refl
 
 pub its_is : (g b : Bool) → (not g && b) ≡ true → b ≡ true

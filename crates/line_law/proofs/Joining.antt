@@ -4,7 +4,7 @@ use Rattle.std.specs.Prelude.{◌==◌}
 use Rattle.std.specs.List.{AllByRecursion}
 use Rattle.knx_model.specs.declared.frames.cemi.Ldata.{Ldata}
 use Rattle.line_model.specs.ActedOnce.{Has, in_channel, IsPrefix, IsChannelOf}
-use Rattle.line_model.specs.ClientView.{ClientChannel, Fresh, Sought, RefusedBy, Unanswered, Open, Lost, Deed, Nothing, View, unused, view_after, first_view_after, channel, deed, views, after_entry, goes_on}
+use Rattle.line_model.specs.ClientView.{ClientChannel, Fresh, Sought, RefusedBy, Unanswered, Open, Lost, Deed, Nothing, View, unused, view_after, first_view_after, channel, traffic, views, after_entry, goes_on}
 use Rattle.line_model.specs.ChannelLost.{is_lost}
 use Rattle.line_model.specs.Gateway.{Gateway, number_of, newest_place}
 use Rattle.line_model.specs.Reading.{is_con}
@@ -27,8 +27,8 @@ abbrev pub OutHead : List View → Type 0
 OutHead [] = ⊥
 OutHead (v ∷ rest) = (v.puts ≡ []) × (v.takes ≡ [])
 
-out_before : (c : ClientChannel) (x : Entry) → IsOut (after_entry c x) → is_renewal x.what ≡ false → IsOut c × (deed c x ≡ Nothing)
-unfolding after_entry deed
+out_before : (c : ClientChannel) (x : Entry) → IsOut (after_entry c x) → is_renewal x.what ≡ false → IsOut c × (traffic c x ≡ Nothing)
+unfolding after_entry traffic
 out_before Fresh x h n = (tt, refl)
 out_before (Sought since) x h n = (tt, refl)
 out_before (RefusedBy status) x h n = (tt, refl)
@@ -43,7 +43,7 @@ out_go : (vs : List View) (after : ClientChannel) → OutHead vs → OutHead (fi
 out_go [] after h = h
 out_go (v ∷ rest) after h = h
 
-out_by : (r : List Entry) (x : Entry) (b : Bool) → is_renewal x.what ≡ b → IsOut (channel (x ∷ r)) → (IsOut (channel r) → OutHead (views r)) → OutHead (cond b (unused ∷ views r) (first_view_after (views r) (channel (x ∷ r)) (deed (channel r) x)))
+out_by : (r : List Entry) (x : Entry) (b : Bool) → is_renewal x.what ≡ b → IsOut (channel (x ∷ r)) → (IsOut (channel r) → OutHead (views r)) → OutHead (cond b (unused ∷ views r) (first_view_after (views r) (channel (x ∷ r)) (traffic (channel r) x)))
 out_by r x true n h f = (refl, refl)
 out_by r x false n h f =
     let p = out_before (channel r) x h n in
@@ -179,7 +179,7 @@ joined_channel g r k present j c v rest items older h is same len number at one 
       let old : Has (views r) q.endpoint other = subst (λ (z : List View). Has z q.endpoint other) (sym h.is) (inr (subst (λ (z : List View). Has z q.endpoint other) (sym same) p)) in
       omega (arith, b.late n other (record { endpoint = q.endpoint; made_by = q.made_by; view = old; number = q.number }))
 
-pub joins_kept : (a : ℕ) (w : World) (r : List Entry) (x : Entry) (s : SessionWorld) (c j : ℕ) (l : List Entry) → (h : HeadView r w.tunnel.present) → is_renewal x.what ≡ false → IsOut (channel r) → deed (channel r) x ≡ Nothing → channel (x ∷ r) ≡ Open c l
+pub joins_kept : (a : ℕ) (w : World) (r : List Entry) (x : Entry) (s : SessionWorld) (c j : ℕ) (l : List Entry) → (h : HeadView r w.tunnel.present) → is_renewal x.what ≡ false → IsOut (channel r) → traffic (channel r) x ≡ Nothing → channel (x ∷ r) ≡ Open c l
     → Has w.tunnel.gateway.makers j w.tunnel.present → c ≡ number_of j → ((n : ℕ) → Has w.tunnel.gateway.makers n w.tunnel.present → number_of n ≡ number_of j → n ≡ j) → UpOnce w.tunnel.gateway (x ∷ r) → Coupled a w r s
     → (n : ℕ) × MayHappen s (Joins n) × Coupled a w (x ∷ r) (joins s n)
 joins_kept a w r x s c j l h renewal out none next made at one once q =
@@ -189,7 +189,7 @@ joins_kept a w r x s c j l h renewal out none next made at one once q =
     let b : Before g r q.older q.items j = before q.last g present r q.items q.older j out made p.last_is in
     let d : Parted j q.items = part j q.items p.sorted in
     let v : View = record { number = Some c; puts = h.view.puts; takes = h.view.takes } in
-    let go : views (x ∷ r) ≡ v ∷ h.rest = views_go r present x h renewal ∙ ap (λ z. view_after h.view z (deed (channel r) x) ∷ h.rest) next ∙ ap (λ z. view_after h.view (Open c l) z ∷ h.rest) none in
+    let go : views (x ∷ r) ≡ v ∷ h.rest = views_go r present x h renewal ∙ ap (λ z. view_after h.view z (traffic (channel r) x) ∷ h.rest) next ∙ ap (λ z. view_after h.view (Open c l) z ∷ h.rest) none in
     let empty : OutHead (h.view ∷ h.rest) = subst OutHead h.is (out_view r out) in
     let quiet : Every NoCon d.newer = b.none d.newer d.high d.dropped d.parts in
     let cons_none : cons (back d.newer g.waiting) ≡ [] = cons_back d.newer g.waiting quiet b.waiting in
@@ -222,7 +222,7 @@ joins_kept a w r x s c j l h renewal out none next made at one once q =
               low = d.high;
               taken = in_none j (puts_of d.dropped ++ q.older) olds ∙ sym empty.1;
               olds = every_map (λ (y : ℕ × List ℕ). y.0 < j) (λ (y : ℕ × List ℕ). y.0 ≤ j) (λ y lt. omega (arith, lt)) (puts_of d.dropped ++ q.older) olds;
-              channel_is = subst (ChannelIs j present present g.makers Landed) (sym next) (refl, at, inr refl);
+              channel_is = subst (ChannelIs j present present g.makers Landed) (sym next) (refl, at, tt);
               con_items = none_at j d.newer quiet;
               serving = inr (b.waiting, b.bus);
               flight_is = (acted ∙ sym empty.0, b.bus, cons_none);

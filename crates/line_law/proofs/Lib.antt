@@ -1,6 +1,7 @@
 pub mod Queue
 pub mod Coupled
 pub mod Owned
+pub mod Alike
 pub mod ReadBack
 mod OnBus
 mod Bus

@@ -47,16 +47,12 @@ on_bus_now (Since base n v (Flies f Gone)) g present r items older x rest h e = 
 
 -- ---- its confirmation waits then
 
-pub open_flies : (confirmed : Bool) (f : Ldata) (one other : Stage) → OpenIs confirmed (Flies f one) → OpenIs confirmed (Flies f other)
-open_flies confirmed f one other (inl h) = inl h
-open_flies confirmed f one other (inr h) = absurd (cc)
-
 pub channel_flies : (base e present : ℕ) (makers : List ℕ) (f : Ldata) (one other : Stage) (c : ClientChannel) → ChannelIs base e present makers (Flies f one) c → ChannelIs base e present makers (Flies f other) c
 channel_flies base e present makers f one other Fresh h = h
 channel_flies base e present makers f one other (Sought since) h = h
 channel_flies base e present makers f one other (RefusedBy status) h = h
 channel_flies base e present makers f one other Unanswered h = h
-channel_flies base e present makers f one other (Open c l) h = (h.0, h.1, open_flies _ f one other h.2)
+channel_flies base e present makers f one other (Open c l) h = h
 channel_flies base e present makers f one other (Lost c) h = h
 
 -- the confirmation of a frame
@@ -64,6 +60,7 @@ pub record ConOf (f con : Ldata) : Type 0 where
   pub code : is_con con.code ≡ true
   pub group : con.group ≡ f.group
   pub destination : con.destination ≡ f.destination
+  pub tpdu : con.tpdu ≡ f.tpdu
   pub reads : ldata_in (cemi_octets con) ≡ Some con
 
 pub cons_one : (con : Ldata) → is_con con.code ≡ true → cons (con ∷ []) ≡ con ∷ []
@@ -103,7 +100,7 @@ told_pipe g present r items older base e v f con is h =
           newest = fl.newest;
           reads = fl.reads;
           request = fl.request;
-          stage_is = (fl.stage_is.0, ap (λ z. drop 1 z) fl.stage_is.1, con, ap cons (back_more items g.waiting (con ∷ [])) ∙ cons_more (back items g.waiting) con fl.stage_is.2 is.code, is.group, is.destination);
+          stage_is = (fl.stage_is.0, ap (λ z. drop 1 z) fl.stage_is.1, con, ap cons (back_more items g.waiting (con ∷ [])) ∙ cons_more (back items g.waiting) con fl.stage_is.2 is.code, is.group, is.destination, is.tpdu);
         };
       };
     }
@@ -132,7 +129,7 @@ told_kept a w r s n items older base e v f con devices is h side coming client =
 pub con_of : (w : World) (left_out : List ℕ) (f : Ldata) (octets : List ℕ) → ldata_in octets ≡ Some f → ConOf f (confirmation w left_out (on_bus (me w) f))
 con_of w left_out f octets h =
     let range = read_range octets f h in
-    record { code = refl; group = refl; destination = refl; reads = written_in Con (not (is_confirmed w left_out (on_bus (me w) f))) f.group (me w).raw f.destination f.tpdu range.0 range.1 tt }
+    record { code = refl; group = refl; destination = refl; tpdu = refl; reads = written_in Con (not (is_confirmed w left_out (on_bus (me w) f))) f.group (me w).raw f.destination f.tpdu range.0 range.1 tt }
 
 -- ---- what each session sees of it
 

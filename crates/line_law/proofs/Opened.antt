@@ -3,8 +3,8 @@ use Rattle.std.proofs.Common.{◌≡◌, ℕ, ◌≤◌, ◌⊎◌, List, ◌∷
 use Rattle.knx_model.specs.declared.address.IndAddr.{IndAddr}
 use Rattle.knx_model.specs.declared.frames.cemi.Ldata.{Ldata}
 use Rattle.line_model.specs.ActedOnce.{Has, IsChannelOf}
-use Rattle.line_model.specs.ChannelLost.{confirmed}
-use Rattle.line_model.specs.ClientView.{ClientChannel, Fresh, Sought, RefusedBy, Unanswered, Open, Lost, Deed, View, view_after, channel, deed, views}
+use Rattle.line_model.specs.ChannelLost.{confirmed, last_frame}
+use Rattle.line_model.specs.ClientView.{ClientChannel, Fresh, Sought, RefusedBy, Unanswered, Open, Lost, Deed, View, view_after, channel, traffic, views}
 use Rattle.line_model.specs.ClientView as view
 use Rattle.line_model.specs.Gateway.{Gateway, number_of}
 use Rattle.line_model.specs.Reading.{ldata_in, is_req}
@@ -29,7 +29,7 @@ head_late g r k present base v n rest old new number late q other c = by_place (
 pub record IsHere (base e : ℕ) (v : View) (flight : Flight) (present c : ℕ) (l r : List Entry) (h : HeadView r present) : Type 0 where
   pub here : e ≡ present
   pub number : c ≡ number_of base
-  pub flies : OpenIs (confirmed c l) flight
+  pub flies : OpenIs (confirmed c l) (last_frame c l) flight
   pub view_is : h.view ≡ v
 
 pub here : (base e : ℕ) (v : View) (flight : Flight) (g : Gateway) (present : ℕ) (r : List Entry) (items : Items) (older : List (ℕ × List ℕ)) (c : ℕ) (l : List Entry) (h : HeadView r present) → channel r ≡ Open c l → JoinedIs base e v flight g present r items older
@@ -47,11 +47,12 @@ pub record PutsSo (r : List Entry) (x : Entry) (c : ℕ) (l : List Entry) (conte
   pub kept : is_renewal x.what ≡ false
   pub is_up : channel r ≡ Open c l
   pub next : channel (x ∷ r) ≡ Open c (x ∷ l)
-  pub puts : deed (channel r) x ≡ view.Puts content
+  pub puts : traffic (channel r) x ≡ view.Puts content
   pub reads : ldata_in content ≡ Some f
   pub request : is_req f.code ≡ true
   pub free : confirmed c l ≡ true
   pub taken : confirmed c (x ∷ l) ≡ false
+  pub last : last_frame c (x ∷ l) ≡ Some f
 
 -- the session puts it, or isn't concerned
 pub record PutBy (a : ℕ) (address : IndAddr) (f : Ldata) (s n : SessionWorld) : Type 0 where
@@ -69,7 +70,7 @@ put_by : (a : ℕ) (w : World) (r : List Entry) (x : Entry) (s n : SessionWorld)
 put_by a w r x s n c l content f items older Never h p b q = absurd (not_out r c l p.is_up q.pipe.last_is.out)
 put_by a w r x s n c l content f items older (Since base e v (Flies k stage)) h p b q =
     let i : IsHere base e v (Flies k stage) w.tunnel.present c l r h = here base e v (Flies k stage) w.tunnel.gateway w.tunnel.present r items older c l h p.is_up q.pipe.last_is in
-    absurd (elim i.flies [ inl isnt ↦ (let z : true ≡ false = sym p.free ∙ isnt in cc) | inr isnt ↦ cc ])
+    absurd (let z : true ≡ false = sym p.free ∙ i.flies.0 in cc)
 put_by a w r x s n c l content f items older (Since base e v Landed) h p b q =
     let g : Gateway = w.tunnel.gateway in
     let present : ℕ = w.tunnel.present in
@@ -78,7 +79,7 @@ put_by a w r x s n c l content f items older (Since base e v Landed) h p b q =
     let n_view : View = record { number = Some c; puts = content ∷ v.puts; takes = v.takes } in
     let old : views r ≡ v ∷ h.rest = h.is ∙ ap (λ z. z ∷ h.rest) i.view_is in
     let go : views (x ∷ r) ≡ n_view ∷ h.rest
-    = views_go r present x h p.kept ∙ ap (λ z. view_after h.view z (deed (channel r) x) ∷ h.rest) p.next ∙ ap (λ z. view_after h.view (Open c (x ∷ l)) z ∷ h.rest) p.puts ∙ ap (λ z. view_after z (Open c (x ∷ l)) (view.Puts content) ∷ h.rest) i.view_is in
+    = views_go r present x h p.kept ∙ ap (λ z. view_after h.view z (traffic (channel r) x) ∷ h.rest) p.next ∙ ap (λ z. view_after h.view (Open c (x ∷ l)) z ∷ h.rest) p.puts ∙ ap (λ z. view_after z (Open c (x ∷ l)) (view.Puts content) ∷ h.rest) i.view_is in
     let number : Some c ≡ v.number = ap (λ z. Some z) i.number ∙ sym j.number in
     record {
       items = items;
@@ -99,7 +100,7 @@ put_by a w r x s n c l content f items older (Since base e v Landed) h p b q =
             low = j.low;
             taken = j.taken;
             olds = j.olds;
-            channel_is = subst (ChannelIs base e present g.makers (Flies f Waits)) (sym p.next) (i.here, i.number, inl p.taken);
+            channel_is = subst (ChannelIs base e present g.makers (Flies f Waits)) (sym p.next) (i.here, i.number, (p.taken, p.last));
             con_items = j.con_items;
             serving = j.serving;
             flight_is = record { octets = content; before = v.puts; newest = refl; reads = p.reads; request = p.request; stage_is = j.flight_is };
@@ -126,5 +127,5 @@ is_free a w r s c l is free q = (joined, by_pending s.client.pending refl q.last
   by_pending true e Never h = absurd (h.pending joined e)
   by_pending true e (Since base n v Landed) h = absurd (h.pending joined e)
   by_pending true e (Since base n v (Flies f stage)) h =
-      let o : OpenIs (confirmed c l) (Flies f stage) = (subst (ChannelIs base n w.tunnel.present w.tunnel.gateway.makers (Flies f stage)) is h.pipe.last_is.channel_is).2 in
-      absurd (elim o [ inl isnt ↦ (let z : true ≡ false = sym free ∙ isnt in cc) | inr isnt ↦ cc ])
+      let o : OpenIs (confirmed c l) (last_frame c l) (Flies f stage) = (subst (ChannelIs base n w.tunnel.present w.tunnel.gateway.makers (Flies f stage)) is h.pipe.last_is.channel_is).2 in
+      absurd (let z : true ≡ false = sym free ∙ o.0 in cc)

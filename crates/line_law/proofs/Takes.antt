@@ -1,5 +1,5 @@
 -- The client takes a request of the gateway in its channel: each session takes what is for it.
-use Rattle.std.proofs.Common.{◌≡◌, ℕ, ◌⊎◌, List, [], ◌∷◌, Bool, true, false, not, ◌&&◌, cond, Option, Some, None, refl, sym, ◌∙◌, ap, subst, inl, inr, if◌then◌else◌}
+use Rattle.std.proofs.Common.{◌≡◌, ℕ, ◌⊎◌, List, [], ◌∷◌, Bool, true, false, not, ◌&&◌, ◌||◌, cond, Option, Some, None, refl, sym, ◌∙◌, ap, subst, inl, inr, if◌then◌else◌}
 use Rattle.std.specs.Prelude.{◌==◌}
 use Rattle.knx_model.specs.declared.connection.ClientTook.TheVariants as heard
 use Rattle.knx_model.specs.declared.connection.TransportFrame.{TransportFrame}
@@ -10,8 +10,8 @@ use Rattle.knx_model.specs.Cemi.{Written as cemi_octets}
 use Rattle.knx_model.specs.ClientConnection.{ClientEnd, Asked, Up, Asking, Awaiting, Ended, device_of, client_took, client_after}
 use Rattle.knx_model.specs.Connection.{frame_in}
 use Rattle.line_model.specs.ActedOnce.{in_channel, IsPrefix, IsChannelOf}
-use Rattle.line_model.specs.ChannelLost.{confirmed as is_confirmed, is_confirmation}
-use Rattle.line_model.specs.ClientView.{View}
+use Rattle.line_model.specs.ChannelLost.{confirmed as is_confirmed, last_frame, is_confirmation, is_confirmation_of}
+use Rattle.line_model.specs.ClientView.{View, counts}
 use Rattle.line_model.specs.Gateway.{Gateway}
 use Rattle.line_model.specs.Reading.{ldata_in, is_con, is_ind}
 use Rattle.line_model.specs.Record.{Entry}
@@ -19,6 +19,7 @@ use Rattle.line_model.specs.World.{World, me}
 use Rattle.session_law.specs.World.{World as SessionWorld, Client, Message, Con as Confirms, Ind as Tells}
 use Rattle.session_law.specs.Client.{confirmed, hears, is_from, frame_from, takes_oldest}
 use Rattle.session_law.specs.Events.{Takes}
+use Rattle.line_law.proofs.Alike.{its_own}
 use Rattle.line_law.proofs.Queue.{Items, is_its, is_by, message, messages, cons, back}
 use Rattle.line_law.proofs.Coupled.{IsOwn, IsTold, Waits, OnBus, Told, Gone, Flight, Landed, Flies, FlightIs, Last, Never, Since, OpenIs, InFlight, is_open, CoupledBy, Coupled}
 use Rattle.line_law.proofs.ReadBack.{IsRead, Read, Unread, own_read}
@@ -77,8 +78,12 @@ module _ (a : ℕ) (w : World) (r : List Entry) (x : Entry) (s : SessionWorld) (
   read : (ldata_in content ≡ Some o.frame) ⊎ ((ldata_in content ≡ None) × (frame_in o.frame.tpdu ≡ Other))
   read = read_is (own_read o.frame own)
 
-  flies_on : OpenIs (is_confirmed c (x ∷ l)) flight
-  flies_on = subst (λ z. OpenIs z flight) (sym (p.stays (unconfirmed read))) (is_here a w r x s c l content items older base e v flight h p q).flies
+  flies_on : OpenIs (is_confirmed c (x ∷ l)) (last_frame c (x ∷ l)) flight
+  flies_on =
+      subst (λ y. OpenIs (is_confirmed c (x ∷ l)) y flight) (sym p.last) (subst (λ z. OpenIs z (last_frame c l) flight) (sym (p.stays (unconfirmed read))) (is_here a w r x s c l content items older base e v flight h p q).flies)
+
+  counted : counts (last_frame c l) (ldata_in content) ≡ true
+  counted = ap (λ b. not b || is_confirmation_of (last_frame c l) (ldata_in content)) (unconfirmed read)
 
   still_flies : FlightIs base w.tunnel.gateway (back o.newer w.tunnel.gateway.waiting) v.puts flight
   still_flies =
@@ -97,7 +102,7 @@ module _ (a : ℕ) (w : World) (r : List Entry) (x : Entry) (s : SessionWorld) (
       absurd (let bad : is_con Ind ≡ true = ap is_con (sym (own_ind o.frame own)) ∙ ap (λ (u : Ldata). is_con u.code) same ∙ b in cc)
   not_con (inr k) y f z b = absurd (let one : None ≡ Some f = sym k.0 ∙ z in cc)
 
-  own_taken : (b : Bool) → is_by a o.frame ≡ b → TakesGoes a w (x ∷ r) s content
+  own_taken : (b : Bool) → is_by a o.frame ≡ b → TakesGoes a w (x ∷ r) s (last_frame c l) content
   own_taken false k =
       record {
         more = [];
@@ -106,6 +111,7 @@ module _ (a : ℕ) (w : World) (r : List Entry) (x : Entry) (s : SessionWorld) (
         coupled = taken_by a w r x s c l content items older base e v flight h p q o s flight flies_on still_flies refl refl refl refl
             (coming_is a w r x s c l content items older base e v flight h p q o [] (own_its a o.frame own false k)) refl (fly_view a (me w) base e v (record { number = Some c; puts = v.puts; takes = content ∷ v.takes }) flight s.flying q.flying) (λ y z. in_view a base e v (record { number = Some c; puts = v.puts; takes = content ∷ v.takes }) flight (q.pending y z));
         client = own_client false k read;
+        counts = counted;
         its = not_con read;
       }
   own_taken true k =
@@ -119,6 +125,7 @@ module _ (a : ℕ) (w : World) (r : List Entry) (x : Entry) (s : SessionWorld) (
         coupled = subst (λ (z : List Message). Coupled a w (x ∷ r) (takes_oldest s z)) (sym at)
             (taken_by a w r x s c l content items older base e v flight h p q o n flight flies_on still_flies refl refl refl refl refl refl (fly_view a (me w) base e v (record { number = Some c; puts = v.puts; takes = content ∷ v.takes }) flight s.flying q.flying) (λ y z. in_view a base e v (record { number = Some c; puts = v.puts; takes = content ∷ v.takes }) flight (q.pending y z)));
         client = ap (λ (z : List Message). (takes_oldest s z).client) at ∙ own_client true k read;
+        counts = counted;
         its = not_con read;
       }
 
@@ -127,6 +134,7 @@ module _ (a : ℕ) (w : World) (r : List Entry) (x : Entry) (s : SessionWorld) (
 record ConTaken (base : ℕ) (g : Gateway) (after : List Ldata) (puts : List (List ℕ)) (flight : Flight) (f : Ldata) : Type 0 where
   pub landed : FlightIs base g after puts Landed
   pub its : (a e : ℕ) (v : View) → InFlight a (Since base e v flight) → is_its a f ≡ true
+  pub own : (open_confirmed : Bool) (last : Option Ldata) → OpenIs open_confirmed last flight → is_con f.code ≡ true → is_confirmation_of last (Some f) ≡ true
 
 no_con : (q : List Ldata) (f : Ldata) (k : List Ldata) → cons q ≡ [] → cons q ≡ f ∷ k → ⊥
 no_con q f k h g = let z : [] ≡ f ∷ k = sym h ∙ g in cc
@@ -145,6 +153,8 @@ con_landed base g q after puts (Flies k Told) f is h =
       landed = (h.stage_is.0, h.stage_is.1, sym none);
       its = λ a e v z.
           ap (λ y. not y && (f.destination == a)) (ap (λ (y : Ldata). y.group) (sym same) ∙ h.stage_is.4) ∙ ap (λ y. not k.group && (y == a)) (ap (λ (y : Ldata). y.destination) (sym same) ∙ h.stage_is.5) ∙ z;
+      own = λ b last o code.
+          its_own last k f o.1 code (ap (λ (y : Ldata). y.group) (sym same) ∙ h.stage_is.4) (ap (λ (y : Ldata). y.destination) (sym same) ∙ h.stage_is.5) (ap (λ (y : Ldata). y.tpdu) (sym same) ∙ h.stage_is.6);
     }
 
 cons_con : (f : Ldata) (k : List Ldata) → is_con f.code ≡ true → cons (f ∷ k) ≡ f ∷ cons k
@@ -159,6 +169,10 @@ told_con a t c f e b k =
     ap (λ z. cond {A = Client} z (cond {A = Client} (is_its a f) (confirmed c f.error t) c) (cond {A = Client} (is_ind f.code && is_by a f) (hears c t (client_took c.end (frame_from (device_of c.end) f))) c)) e
     ∙ ap (λ z. cond {A = Client} z (confirmed c f.error t) c) k
 
+or_true : (a b : Bool) → b ≡ true → (a || b) ≡ true
+or_true true b h = refl
+or_true false b h = h
+
 module _ (a : ℕ) (w : World) (r : List Entry) (x : Entry) (s : SessionWorld) (c : ℕ) (l : List Entry) (content : List ℕ) (items : Items) (older : List (ℕ × List ℕ)) (base e : ℕ) (v : View) (flight : Flight) (h : HeadView r w.tunnel.present)
     (p : TakesSo r x c l content) (q : CoupledBy a w r s items older (Since base e v flight)) (o : Oldest base items content) (con : is_con o.frame.code ≡ true) (reads : ldata_in (cemi_octets o.frame) ≡ Some o.frame) where
   landing : ConTaken base w.tunnel.gateway (back o.newer w.tunnel.gateway.waiting) v.puts flight o.frame
@@ -169,20 +183,26 @@ module _ (a : ℕ) (w : World) (r : List Entry) (x : Entry) (s : SessionWorld) (
   con_client : (b : Bool) → is_its a o.frame ≡ b → ◌≡◌ {A = Client} (if b then confirmed s.client o.frame.error s.now else s.client) (client_told a s.now s.client (ldata_in content))
   con_client b k = sym (ap (client_told a s.now s.client) (ap ldata_in (sym o.octets) ∙ reads) ∙ told_con a s.now s.client o.frame con b k)
 
+  counted_con : counts (last_frame c l) (ldata_in content) ≡ true
+  counted_con =
+      or_true (not (is_confirmation (ldata_in content))) (is_confirmation_of (last_frame c l) (ldata_in content))
+      (ap (is_confirmation_of (last_frame c l)) (ap ldata_in (sym o.octets) ∙ reads) ∙ landing.own (is_confirmed c l) (last_frame c l) (is_here a w r x s c l content items older base e v flight h p q).flies con)
+
   con_its : s.client.pending ≡ true → (f : Ldata) → ldata_in content ≡ Some f → is_con f.code ≡ true → is_its a f ≡ true
   con_its y f z b =
       let same : o.frame ≡ f = (let one : Some o.frame ≡ Some f = sym (ap ldata_in (sym o.octets) ∙ reads) ∙ z in cc) in
       ap (is_its a) (sym same) ∙ landing.its a e v (q.pending (q.joined ∙ ap is_open p.is_up) y)
 
-  con_taken : (b : Bool) → is_its a o.frame ≡ b → TakesGoes a w (x ∷ r) s content
+  con_taken : (b : Bool) → is_its a o.frame ≡ b → TakesGoes a w (x ∷ r) s (last_frame c l) content
   con_taken false k =
       record {
         more = [];
         legal = tt;
         silent = tt;
-        coupled = taken_by a w r x s c l content items older base e v flight h p q o s Landed (inr refl) landing.landed refl refl refl refl
+        coupled = taken_by a w r x s c l content items older base e v flight h p q o s Landed tt landing.landed refl refl refl refl
             (coming_is a w r x s c l content items older base e v flight h p q o [] (message_con a o.frame con false k)) refl tt (λ y z. (let i : true ≡ false = sym (landing.its a e v (q.pending y z)) ∙ k in cc));
         client = con_client false k;
+        counts = counted_con;
         its = con_its;
       }
   con_taken true k =
@@ -194,25 +214,26 @@ module _ (a : ℕ) (w : World) (r : List Entry) (x : Entry) (s : SessionWorld) (
         legal = (tt, tt);
         silent = (tt, tt);
         coupled = subst (λ (z : List Message). Coupled a w (x ∷ r) (takes_oldest s z)) (sym at)
-            (taken_by a w r x s c l content items older base e v flight h p q o n Landed (inr refl) landing.landed refl refl refl refl refl refl tt (λ y z. absurd (cc)));
+            (taken_by a w r x s c l content items older base e v flight h p q o n Landed tt landing.landed refl refl refl refl refl refl tt (λ y z. absurd (cc)));
         client = ap (λ (z : List Message). (takes_oldest s z).client) at ∙ con_client true k;
+        counts = counted_con;
         its = con_its;
       }
 
 -- ---- either
 
 take_first : (a : ℕ) (w : World) (r : List Entry) (x : Entry) (s : SessionWorld) (c : ℕ) (l : List Entry) (content : List ℕ) (items : Items) (older : List (ℕ × List ℕ)) (base e : ℕ) (v : View) (flight : Flight) (h : HeadView r w.tunnel.present)
-    (p : TakesSo r x c l content) (q : CoupledBy a w r s items older (Since base e v flight)) (o : Oldest base items content) → IsTold o.frame → TakesGoes a w (x ∷ r) s content
+    (p : TakesSo r x c l content) (q : CoupledBy a w r s items older (Since base e v flight)) (o : Oldest base items content) → IsTold o.frame → TakesGoes a w (x ∷ r) s (last_frame c l) content
 take_first a w r x s c l content items older base e v flight h p q o (inl own) = own_taken a w r x s c l content items older base e v flight h p q o own (is_by a o.frame) refl
 take_first a w r x s c l content items older base e v flight h p q o (inr con) = con_taken a w r x s c l content items older base e v flight h p q o con.0 con.1 (is_its a o.frame) refl
 
 take_last : (a : ℕ) (w : World) (r : List Entry) (x : Entry) (s : SessionWorld) (c : ℕ) (l : List Entry) (content : List ℕ) (items : Items) (older : List (ℕ × List ℕ)) (last : Last) (h : HeadView r w.tunnel.present) (p : TakesSo r x c l content)
-    → ((k : ℕ) (n : View) → IsChannelOf w.tunnel.gateway (x ∷ r) k n → IsPrefix n.takes (in_channel k w.tunnel.gateway.puts)) → CoupledBy a w r s items older last → TakesGoes a w (x ∷ r) s content
+    → ((k : ℕ) (n : View) → IsChannelOf w.tunnel.gateway (x ∷ r) k n → IsPrefix n.takes (in_channel k w.tunnel.gateway.puts)) → CoupledBy a w r s items older last → TakesGoes a w (x ∷ r) s (last_frame c l) content
 take_last a w r x s c l content items older Never h p down q = absurd (not_out r c l p.is_up q.pipe.last_is.out)
 take_last a w r x s c l content items older (Since base e v flight) h p down q =
     let o : Oldest base items content = first a w r x s c l content items older base e v flight h p q (down base (record { number = Some c; puts = v.puts; takes = content ∷ v.takes }) (channel_at a w r x s c l content items older base e v flight h p q)) in
     take_first a w r x s c l content items older base e v flight h p q o (told a w r x s c l content items older base e v flight h p q o).0
 
 pub take_kept : (a : ℕ) (w : World) (r : List Entry) (x : Entry) (s : SessionWorld) (c : ℕ) (l : List Entry) (content : List ℕ) (h : HeadView r w.tunnel.present) → TakesSo r x c l content
-    → ((k : ℕ) (n : View) → IsChannelOf w.tunnel.gateway (x ∷ r) k n → IsPrefix n.takes (in_channel k w.tunnel.gateway.puts)) → Coupled a w r s → TakesGoes a w (x ∷ r) s content
+    → ((k : ℕ) (n : View) → IsChannelOf w.tunnel.gateway (x ∷ r) k n → IsPrefix n.takes (in_channel k w.tunnel.gateway.puts)) → Coupled a w r s → TakesGoes a w (x ∷ r) s (last_frame c l) content
 take_kept a w r x s c l content h p down q = take_last a w r x s c l content q.items q.older q.last h p down q.by

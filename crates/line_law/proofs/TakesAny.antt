@@ -4,8 +4,8 @@ use Rattle.knx_model.specs.declared.address.IndAddr.{IndAddr}
 use Rattle.knx_model.specs.declared.frames.cemi.Ldata.{Ldata}
 use Rattle.knx_model.specs.ClientConnection.{device_of, client_took}
 use Rattle.line_model.specs.ActedOnce.{Has, in_channel, IsPrefix, IsChannelOf}
-use Rattle.line_model.specs.ChannelLost.{confirmed as is_confirmed, is_confirmation}
-use Rattle.line_model.specs.ClientView.{ClientChannel, Open, Deed, View, view_after, channel, deed, views}
+use Rattle.line_model.specs.ChannelLost.{confirmed as is_confirmed, last_frame, is_confirmation}
+use Rattle.line_model.specs.ClientView.{ClientChannel, Open, Deed, View, view_after, channel, traffic, views}
 use Rattle.line_model.specs.ClientView as view
 use Rattle.line_model.specs.Gateway.{Gateway, newest_place}
 use Rattle.line_model.specs.Reading.{ldata_in, is_con, is_ind}
@@ -37,15 +37,17 @@ pub record TakesSo (r : List Entry) (x : Entry) (c : ℕ) (l : List Entry) (cont
   pub kept : is_renewal x.what ≡ false
   pub is_up : channel r ≡ Open c l
   pub next : channel (x ∷ r) ≡ Open c (x ∷ l)
-  pub takes : deed (channel r) x ≡ view.Takes content
+  pub takes : traffic (channel r) x ≡ view.Takes content
   pub stays : is_confirmation (ldata_in content) ≡ false → is_confirmed c (x ∷ l) ≡ is_confirmed c l
+  pub last : last_frame c (x ∷ l) ≡ last_frame c l
 
-pub record TakesGoes (a : ℕ) (w : World) (r : List Entry) (s : SessionWorld) (content : List ℕ) : Type 0 where
+pub record TakesGoes (a : ℕ) (w : World) (r : List Entry) (s : SessionWorld) (last : Option Ldata) (content : List ℕ) : Type 0 where
   pub more : List SessionEvent
   pub legal : IsLegal s more
   pub silent : AsksNothing more
   pub coupled : Coupled a w r (replay s more)
   pub client : (replay s more).client ≡ client_told a s.now s.client (ldata_in content)
+  pub counts : view.counts last (ldata_in content) ≡ true
   pub its : s.client.pending ≡ true → (f : Ldata) → ldata_in content ≡ Some f → is_con f.code ≡ true → is_its a f ≡ true
 
 -- ---- the rest is on its way then
@@ -71,7 +73,7 @@ module _ (a : ℕ) (w : World) (r : List Entry) (x : Entry) (s : SessionWorld) (
 
   pub go : views (x ∷ r) ≡ taken_view ∷ h.rest
   go =
-      views_go r w.tunnel.present x h p.kept ∙ ap (λ z. view_after h.view z (deed (channel r) x) ∷ h.rest) p.next ∙ ap (λ z. view_after h.view (Open c (x ∷ l)) z ∷ h.rest) p.takes
+      views_go r w.tunnel.present x h p.kept ∙ ap (λ z. view_after h.view z (traffic (channel r) x) ∷ h.rest) p.next ∙ ap (λ z. view_after h.view (Open c (x ∷ l)) z ∷ h.rest) p.takes
       ∙ ap (λ z. view_after z (Open c (x ∷ l)) (view.Takes content) ∷ h.rest) is_here.view_is
 
   pub number_is : Some c ≡ v.number
@@ -97,7 +99,7 @@ module _ (a : ℕ) (w : World) (r : List Entry) (x : Entry) (s : SessionWorld) (
     pub told : Every IsTold (o.frame ∷ back o.newer w.tunnel.gateway.waiting)
     told = subst (Every IsTold) queue q.pipe.frames
 
-    pub taken_pipe : (after : Flight) → OpenIs (is_confirmed c (x ∷ l)) after → FlightIs base w.tunnel.gateway (back o.newer w.tunnel.gateway.waiting) v.puts after
+    pub taken_pipe : (after : Flight) → OpenIs (is_confirmed c (x ∷ l)) (last_frame c (x ∷ l)) after → FlightIs base w.tunnel.gateway (back o.newer w.tunnel.gateway.waiting) v.puts after
         → Pipe w.tunnel.gateway w.tunnel.present (x ∷ r) o.newer ((base, content) ∷ older) (Since base e taken_view after)
     taken_pipe after flies flight_is =
         let g : Gateway = w.tunnel.gateway in
@@ -131,7 +133,7 @@ module _ (a : ℕ) (w : World) (r : List Entry) (x : Entry) (s : SessionWorld) (
     coming_is m k = q.coming ∙ ap (messages a) queue ∙ ap (λ z. z ++ messages a (back o.newer w.tunnel.gateway.waiting)) k
 
     -- a session after it
-    pub taken_by : (n : SessionWorld) (after : Flight) → OpenIs (is_confirmed c (x ∷ l)) after → FlightIs base w.tunnel.gateway (back o.newer w.tunnel.gateway.waiting) v.puts after → n.device ≡ s.device → n.me ≡ s.me → n.now ≡ s.now → n.echo ≡ s.echo
+    pub taken_by : (n : SessionWorld) (after : Flight) → OpenIs (is_confirmed c (x ∷ l)) (last_frame c (x ∷ l)) after → FlightIs base w.tunnel.gateway (back o.newer w.tunnel.gateway.waiting) v.puts after → n.device ≡ s.device → n.me ≡ s.me → n.now ≡ s.now → n.echo ≡ s.echo
         → n.coming ≡ messages a (back o.newer w.tunnel.gateway.waiting) → n.client.joined ≡ s.client.joined → FlyFor a (me w) (Since base e taken_view after) n.flying → PendFor a (Since base e taken_view after) n.client → Coupled a w (x ∷ r) n
     taken_by n after flies flight_is d m t k coming joined flying pending =
         record {

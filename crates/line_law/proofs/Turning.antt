@@ -5,7 +5,7 @@ use Rattle.knx_model.specs.declared.frames.ip.IpFrame.{IpFrame}
 use Rattle.knx_model.specs.declared.frames.ip.IpFrame.TheVariants.{ConnectRequest, ConnectResponse, StateRequest, StateResponse, DisconnectRequest, DisconnectResponse, TunnellingRequest, TunnellingAck}
 use Rattle.knx_model.specs.Connection.{has_passed}
 use Rattle.line_model.specs.ChannelLost.{is_lost, answer_wait}
-use Rattle.line_model.specs.ClientView.{ClientChannel, Fresh, Sought, RefusedBy, Unanswered, Open, Lost, Deed, channel, deed, after_entry, goes_on, sought_got, answered}
+use Rattle.line_model.specs.ClientView.{ClientChannel, Fresh, Sought, RefusedBy, Unanswered, Open, Lost, Deed, channel, traffic, after_entry, goes_on, sought_got, answered}
 use Rattle.line_model.specs.ClientView as view
 use Rattle.line_model.specs.Reading.{is_connect_request}
 use Rattle.line_model.specs.Record.{Entry, put_in, got_in, is_renewal, is_poll}
@@ -13,8 +13,8 @@ use Rattle.line_law.proofs.Coupled.{Flight, IsOut, IsLater, ChannelIs, is_open}
 use Rattle.line_law.proofs.Entries.{Moves, Outside, Goes, Stays}
 use Rattle.line_law.proofs.Entering.{Turn, IsStill, IsLost, Joins, Puts, Takes, not_renewed, deed_open, deed_lost, Brought, Neither, Put, Take, brought}
 
-still_of : (r : List Entry) (x : Entry) (c d : ClientChannel) → channel r ≡ c → channel (x ∷ r) ≡ d → Moves c d → deed c x ≡ view.Nothing → Turn r x
-still_of r x c d e k m n = IsStill (record { moves = subst (λ z. Moves z (channel (x ∷ r))) (sym e) (subst (λ z. Moves c z) (sym k) m); none = ap (λ z. deed z x) e ∙ n })
+still_of : (r : List Entry) (x : Entry) (c d : ClientChannel) → channel r ≡ c → channel (x ∷ r) ≡ d → Moves c d → traffic c x ≡ view.Nothing → Turn r x
+still_of r x c d e k m n = IsStill (record { moves = subst (λ z. Moves z (channel (x ∷ r))) (sym e) (subst (λ z. Moves c z) (sym k) m); none = ap (λ z. traffic z x) e ∙ n })
 
 abbrev Seeks : ClientChannel → Type 0
 Seeks Fresh = Unit {0}
@@ -56,8 +56,8 @@ seeks_shut Unanswered k = refl
 seeks_shut (Open c l) k = absurd k
 seeks_shut (Lost c) k = absurd k
 
-nothing_yet : (c : ClientChannel) (x : Entry) → Seeks c → deed c x ≡ view.Nothing
-unfolding deed
+nothing_yet : (c : ClientChannel) (x : Entry) → Seeks c → traffic c x ≡ view.Nothing
+unfolding traffic
 nothing_yet Fresh x k = refl
 nothing_yet (Sought since) x k = refl
 nothing_yet (RefusedBy status) x k = refl
@@ -65,8 +65,8 @@ nothing_yet Unanswered x k = refl
 nothing_yet (Open c l) x k = absurd k
 nothing_yet (Lost c) x k = absurd k
 
-nothing_more : (c : ℕ) (x : Entry) → deed (Lost c) x ≡ view.Nothing
-unfolding deed
+nothing_more : (c : ℕ) (x : Entry) → traffic (Lost c) x ≡ view.Nothing
+unfolding traffic
 nothing_more c x = refl
 
 seeks_on : (r : List Entry) (x : Entry) (c d : ClientChannel) → channel r ≡ c → channel (x ∷ r) ≡ d → Seeks c → Seeks d → Turn r x
@@ -74,7 +74,7 @@ seeks_on r x c d e k a b = still_of r x c d e k (Outside (seeks_later c a) (late
 
 -- a connect response
 answered_turn : (r : List Entry) (x : Entry) (since channel_number status : ℕ) (b : Bool) → channel r ≡ Sought since → channel (x ∷ r) ≡ (if b then Open channel_number (x ∷ []) else RefusedBy status) → Turn r x
-answered_turn r x since n status true e k = Joins n (subst IsOut (sym e) tt) (ap is_open e) k (ap (λ z. deed z x) e ∙ nothing_yet (Sought since) x tt)
+answered_turn r x since n status true e k = Joins n (subst IsOut (sym e) tt) (ap is_open e) k (ap (λ z. traffic z x) e ∙ nothing_yet (Sought since) x tt)
 answered_turn r x since n status false e k = seeks_on r x (Sought since) (RefusedBy status) e k tt tt
 
 got_turn : (r : List Entry) (x : Entry) (since : ℕ) (o : Option IpFrame) → channel r ≡ Sought since → channel (x ∷ r) ≡ sought_got since x o → Turn r x
@@ -98,15 +98,15 @@ fresh_turn r x false e k = seeks_on r x Fresh Fresh e k tt tt
 
 -- in an open channel
 open_turn : (r : List Entry) (x : Entry) (c : ℕ) (l : List Entry) (b : Bool) → channel r ≡ Open c l → is_lost c l x ≡ b → channel (x ∷ r) ≡ (if b then Lost c else Open c (x ∷ l)) → Turn r x
-open_turn r x c l true e lost k = IsLost c l e k (ap (λ z. deed z x) e ∙ deed_lost c l x lost)
+open_turn r x c l true e lost k = IsLost c l e k (ap (λ z. traffic z x) e ∙ deed_lost c l x lost)
 open_turn r x c l false e lost k = by_brought (brought c l x) where
-  at : deed (channel r) x ≡ view.deed_in c l x
-  at = ap (λ z. deed z x) e ∙ deed_open c l x lost
+  at : traffic (channel r) x ≡ view.deed_in c l x
+  at = ap (λ z. traffic z x) e ∙ deed_open c l x lost
 
   by_brought : Brought c l x → Turn r x
-  by_brought (Neither none same) = still_of r x (Open c l) (Open c (x ∷ l)) e k (Goes same) (deed_open c l x lost ∙ none)
-  by_brought (Put content is new) = Puts c l content e k (at ∙ is) new
-  by_brought (Take content is stays) = Takes c l content e k (at ∙ is) stays
+  by_brought (Neither none same last) = still_of r x (Open c l) (Open c (x ∷ l)) e k (Goes same last) (deed_open c l x lost ∙ none)
+  by_brought (Put content is new last) = Puts c l content e k (at ∙ is) new last
+  by_brought (Take content is stays last) = Takes c l content e k (at ∙ is) stays last
 
 turn_by : (r : List Entry) (x : Entry) (c : ClientChannel) → channel r ≡ c → channel (x ∷ r) ≡ goes_on c x → Turn r x
 turn_by r x Fresh e k = fresh_turn r x (is_connect_request (put_in x.what)) e k

@@ -5,7 +5,8 @@
 -- state response with another status, lose it, and that a heartbeat without answer isn't repeated at once but with the next pause of 60,000 ms,
 -- is this project's own. A channel is read from its own entries alone, from its connect response
 -- on, the newest first; the time of an entry counts before what was got in it.
-use Rattle.std.specs.Prelude.{ℕ, List, [], ◌∷◌, Bool, true, false, not, ◌&&◌, ◌||◌, ◌==◌, if◌then◌else◌, Option, Some, None}
+use Rattle.std.specs.Prelude.{ℕ, List, [], ◌∷◌, Bool, true, false, not, ◌&&◌, ◌||◌, ◌==◌, bytes_eq, if◌then◌else◌, Option, Some, None}
+use Rattle.std.specs.Bool.{beq}
 use Rattle.knx_model.specs.declared.frames.cemi.Ldata.{Ldata}
 use Rattle.knx_model.specs.declared.frames.ip.IpFrame.{IpFrame}
 use Rattle.knx_model.specs.Connection.{has_passed}
@@ -73,20 +74,38 @@ acknowledged c (x ∷ l) =
     if is_new_request c l x then None
     else (if acknowledges c (own c l) (ack_in (got_in x.what)) then Some x.now else acknowledged c l)
 
+-- the frame of the link layer in it
+abbrev pub frame_in_request : Option RequestFrame → Option Ldata
+frame_in_request None = None
+frame_in_request (Some request) = ldata_in request.cemi
+
+abbrev pub last_frame : ℕ → List Entry → Option Ldata
+last_frame c [] = None
+last_frame c (x ∷ l) = if is_new_request c l x then frame_in_request (request_in (put_in x.what)) else last_frame c l
+
 abbrev pub is_confirmation : Option Ldata → Bool
 is_confirmation None = false
 is_confirmation (Some frame) = is_con frame.code
 
-abbrev pub confirms : ℕ → ℕ → Option RequestFrame → Bool
-confirms c expected None = false
-confirms c expected (Some request) = delivers c expected (Some request) && is_confirmation (ldata_in request.cemi)
+-- a confirmation is that of a frame with its destination, of its kind, and its TPDU
+abbrev pub is_alike : Ldata → Ldata → Bool
+is_alike frame con = (beq con.group frame.group && (con.destination == frame.destination)) && bytes_eq con.tpdu frame.tpdu
+
+abbrev pub is_confirmation_of : Option Ldata → Option Ldata → Bool
+is_confirmation_of None con = false
+is_confirmation_of (Some frame) None = false
+is_confirmation_of (Some frame) (Some con) = is_con con.code && is_alike frame con
+
+abbrev pub confirms : ℕ → ℕ → Option Ldata → Option RequestFrame → Bool
+confirms c expected last None = false
+confirms c expected last (Some request) = delivers c expected (Some request) && is_confirmation_of last (ldata_in request.cemi)
 
 -- whether its confirmation was delivered since it was put
 abbrev pub confirmed : ℕ → List Entry → Bool
 confirmed c [] = true
 confirmed c (x ∷ l) =
     if is_new_request c l x then false
-    else (if confirms c (expected c l) (request_in (got_in x.what)) then true else confirmed c l)
+    else (if confirms c (expected c l) (last_frame c l) (request_in (got_in x.what)) then true else confirmed c l)
 
 -- ---- heartbeats: when those were sent that came since the last answer to one, the newest first; an answer comes within 10,000 ms
 

@@ -2,7 +2,7 @@
 -- it got there, and which requests of the gateway were delivered in it. The channel of an endpoint is that of the first connect response
 -- which was got there after the connect request was sent there, where its status is 0 and fewer than 10,000 ms had passed since; no other
 -- response opens one. It lasts until it is lost.
-use Rattle.std.specs.Prelude.{ℕ, List, [], ◌∷◌, Bool, ◌&&◌, ◌==◌, if◌then◌else◌, Option, Some, None}
+use Rattle.std.specs.Prelude.{ℕ, List, [], ◌∷◌, Bool, not, ◌&&◌, ◌||◌, ◌==◌, if◌then◌else◌, Option, Some, None}
 use Rattle.std.specs.List.{filter_map}
 use Rattle.knx_model.specs.declared.frames.cemi.Ldata.{Ldata}
 use Rattle.knx_model.specs.declared.frames.ip.IpFrame.{IpFrame}
@@ -14,7 +14,7 @@ use Rattle.knx_model.specs.DeviceFrames.{group_service}
 use Rattle.line_model.specs.declared.group.Indication.{Indication}
 use Rattle.line_model.specs.Reading.{ldata_in, is_ind, is_connect_request, RequestFrame, request_in}
 use Rattle.line_model.specs.Record.{Entry, put_in, got_in, is_renewal, is_poll}
-use Rattle.line_model.specs.ChannelLost.{answer_wait, delivers, expected, is_new_request, is_lost}
+use Rattle.line_model.specs.ChannelLost.{answer_wait, delivers, expected, is_new_request, last_frame, is_confirmation, is_confirmation_of, is_lost}
 
 -- ---- what came of an endpoint
 
@@ -79,8 +79,23 @@ deed_in c l x =
     or_takes (deed_of Puts (is_new_request c l x) (request_in (put_in x.what)))
     (deed_of Takes (delivers c (expected c l) (request_in (got_in x.what))) (request_in (got_in x.what)))
 
+unfoldable pub traffic : ClientChannel → Entry → Deed
+traffic (Open c l) x = if is_lost c l x then Loses else deed_in c l x
+traffic _ x = Nothing
+
+-- ---- the same, as far as it counts: a confirmation that isn't that of the request put last is nothing
+
+abbrev pub counts : Option Ldata → Option Ldata → Bool
+counts last taken = not (is_confirmation taken) || is_confirmation_of last taken
+
+abbrev pub as_counted : Option Ldata → Deed → Deed
+as_counted last (Puts frame) = Puts frame
+as_counted last (Takes frame) = if counts last (ldata_in frame) then Takes frame else Nothing
+as_counted last Loses = Loses
+as_counted last Nothing = Nothing
+
 unfoldable pub deed : ClientChannel → Entry → Deed
-deed (Open c l) x = if is_lost c l x then Loses else deed_in c l x
+deed (Open c l) x = if is_lost c l x then Loses else as_counted (last_frame c l) (deed_in c l x)
 deed _ x = Nothing
 
 -- ---- each endpoint's channel, what was put in it and what was taken in it, all the newest first; endpoints are numbered from 0
@@ -115,7 +130,7 @@ first_view_after (v ∷ views) after what = view_after v after what ∷ views
 -- that of the present endpoint first
 abbrev pub views : List Entry → List View
 views [] = unused ∷ []
-views (x ∷ r) = if is_renewal x.what then unused ∷ views r else first_view_after (views r) (channel (x ∷ r)) (deed (channel r) x)
+views (x ∷ r) = if is_renewal x.what then unused ∷ views r else first_view_after (views r) (channel (x ∷ r)) (traffic (channel r) x)
 
 -- ---- all that was taken, one channel after another; the newest first
 

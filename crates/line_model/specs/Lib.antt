@@ -36,12 +36,13 @@ pub mod Waiting
 pub mod Ends
 pub mod Leaves
 pub mod Haste
--- 6. The outside: what a link, a port and a dialer tell
+-- 6. The outside: what a link, a port, a dialer and a watcher tell
 pub mod LinkStory
 pub mod Polled
 pub mod PortStory
 pub mod Serving
 pub mod Dialled
+pub mod Watched
 pub mod Pumped
 -- 7. What is promised
 pub mod OldStoppedOrNew

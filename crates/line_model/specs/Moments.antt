@@ -1,6 +1,7 @@
 -- What the record says of frames of the link layer (KNX standard 3/6/3, common EMI, and ISO/IEC 14543-3-2, transport layer): what each entry
 -- put, took or lost, with its time and its place; and of one device, which of its frames were taken and which were put to it. Since at most
--- one request is on its way, the first confirmation that is taken after a request was put is its own. The newest moment first.
+-- one request is on its way, and a confirmation counts only where it has the destination and the TPDU of the request that was put last, the first
+-- one that is taken after a request was put is its own. The newest moment first.
 use Rattle.std.specs.Prelude.{ℕ, suc, ◌%◌, List, [], ◌∷◌, length, Bool, true, false, not, ◌&&◌, ◌||◌, ◌==◌, nat_lt, nat_le, if◌then◌else◌, Option, Some, None}
 use Rattle.std.specs.List.{filter}
 use Rattle.knx_model.specs.declared.connection.TransportFrame.{TransportFrame}

@@ -1,6 +1,6 @@
 -- Up to the nearest time there is nothing to send, and then there is.
-use Rattle.std.proofs.Common.{◌≡◌, ◌≢◌, ℕ, ◌+◌, ◌<◌, ◌≤◌, ◌⊎◌, ◌↔◌, inl, inr, Bool, true, false, List, [], ◌∷◌, Option, Some, None, refl, ap, sym, subst, ◌∙◌, arith, if◌then◌else◌}
-use Rattle.std.specs.Prelude.{nat_le, nat_lt, IfNone, IfSome}
+use Rattle.std.proofs.Common.{◌≡◌, ◌≢◌, ℕ, ◌+◌, ◌<◌, ◌≤◌, ◌⊎◌, inl, inr, Bool, true, false, List, [], ◌∷◌, Option, Some, None, refl, ap, sym, subst, ◌∙◌, arith, if◌then◌else◌}
+use Rattle.std.specs.Prelude.{nat_lt, IfNone, IfSome}
 use Rattle.std.proofs.lemmas.Bool.{cases_lt}
 use Rattle.knx_model.specs.declared.connection.DeviceExpired.{DeviceExpired}
 use Rattle.knx_model.specs.declared.connection.DeviceExpired.TheVariants as expired
@@ -11,36 +11,18 @@ use Rattle.knx_model.specs.DeviceConnection.{DeviceEnd, Closed, Idle, Answering,
 use Rattle.knx_model.specs.DeviceSending.{due_sending, next_sending, sending_of}
 use Rattle.knx_model.specs.DeviceState.{DeviceState}
 use Rattle.line_model.specs.Fresh.{HasNothingToSend, Settled, SettledFor}
-use Rattle.line_model.specs.Gateway.{Gateway, Channel, Request, GatewayExpired, Nothing, Repeat, Closing, channel_expired, gateway_expired, client_wait, acknowledgement_wait}
-use Rattle.line_model.specs.GatewayEnd.{GatewayEnd, channel_deadline, request_deadline}
+use Rattle.line_model.specs.Gateway.{Gateway, Channel, Nothing, gateway_expired}
+use Rattle.line_model.specs.GatewayEnd.{channel_deadline}
 use Rattle.line_model.specs.Tunnel.{Mode}
 use Rattle.line_model.specs.World.{World, now}
 use Rattle.transport_conn.proofs.DeviceEnd.{due, reached}
+use Rattle.tunnel_sim.proofs.Deadlines.{IsBefore, IsExact, earlier_within, gateway_still, its_channel, wait_within}
 use Rattle.line_sim.specs.Due.{IsNearest, deadline_at}
 use Rattle.line_sim.specs.Line.{LineNow, IsNow}
 use Rattle.line_sim.specs.Places.{device_at}
 use Rattle.line_sim.proofs.Nearest.{least_of_both, neither}
 
--- a time is before another one, where there is one
-abbrev pub IsBefore : ℕ → Option ℕ → Type 0
-IsBefore at None = Unit {0}
-IsBefore at (Some end) = at < end
-
 -- ---- no time is beyond the last one
-
-wait_within : (wait since : ℕ) → wait_end wait since ≤ last_time
-wait_within wait since = by_sum (nat_le (since + wait) last_time) refl
-  where
-    by_sum : (t : Bool) → nat_le (since + wait) last_time ≡ t → (if t then since + wait else last_time) ≤ last_time
-    by_sum true e = grind arith
-    by_sum false e = omega arith
-
-earlier_within : (one other : ℕ) → one ≤ last_time → other ≤ last_time → earlier_time one other ≤ last_time
-earlier_within one other h g = by_order (nat_le one other)
-  where
-    by_order : (t : Bool) → (if t then one else other) ≤ last_time
-    by_order true = h
-    by_order false = g
 
 outstanding_within : (a : Outstanding) (s : Session) → outstanding_deadline a (wait_end idle_wait s.last) ≤ last_time
 outstanding_within a s = by_repeats (nat_lt a.repeats most_repeats)
@@ -54,16 +36,6 @@ unfolding device_deadline
 device_within Closed t h = cc
 device_within (Idle s) t h = let is : wait_end idle_wait s.last ≡ t = cc in subst (λ (x : ℕ). x ≤ last_time) is (wait_within idle_wait s.last)
 device_within (Answering s a) t h = let is : outstanding_deadline a (wait_end idle_wait s.last) ≡ t = cc in subst (λ (x : ℕ). x ≤ last_time) is (outstanding_within a s)
-
-request_within : (o : Option Request) (end : ℕ) → end ≤ last_time → request_deadline o end ≤ last_time
-request_within None end h = h
-request_within (Some r) end h = earlier_within _ end (wait_within acknowledgement_wait r.sent) h
-
-channel_within : (o : Option Channel) (t : ℕ) → channel_deadline o ≡ Some t → t ≤ last_time
-channel_within None t h = cc
-channel_within (Some c) t h =
-    let is : request_deadline c.outstanding (wait_end client_wait c.heard) ≡ t = cc in
-    subst (λ (x : ℕ). x ≤ last_time) is (request_within c.outstanding _ (wait_within client_wait c.heard))
 
 -- ---- a device
 
@@ -115,32 +87,6 @@ device_then d t at is past early none =
 
 -- ---- the gateway
 
--- the law of its deadline, as the gateway's end has it
-abbrev pub IsExact : Type 0
-IsExact = (channel : Option Channel) (at : ℕ) → at < last_time → Reached (channel_deadline channel) at ↔ (channel_expired channel at ≢ Nothing)
-
-none_is_none : (o : Option Channel) → channel_deadline o ≡ None → o ≡ None
-none_is_none None h = refl
-none_is_none (Some c) h = cc
-
-rests_so : (x : GatewayExpired) → (x ≢ Nothing → ⊥) → x ≡ Nothing
-rests_so Nothing h = refl
-rests_so (Repeat frame) h = absurd (h (λ e. cc))
-rests_so (Closing frame) h = absurd (h (λ e. cc))
-
-channel_waits : IsExact → (c : Option Channel) (at : ℕ) (o : Option ℕ) → channel_deadline c ≡ o → IsBefore at o → channel_expired c at ≡ Nothing
-channel_waits law c at None is before = ap (λ (x : Option Channel). channel_expired x at) (none_is_none c is)
-channel_waits law c at (Some t) is before =
-    let early : at < last_time = omega (arith, channel_within c t is, before) in
-    rests_so (channel_expired c at) (λ some. late (subst (λ (o : Option ℕ). Reached o at) is ((law c at early).1 some)))
-  where
-    late : t ≤ at → ⊥
-    late h = omega (arith, h, before)
-
-gateway_still : IsExact → (g : Gateway) (at : ℕ) → IsBefore at (channel_deadline g.channel) → gateway_expired g at ≡ Nothing
-unfolding gateway_expired
-gateway_still law g at before = channel_waits law g.channel at (channel_deadline g.channel) refl before
-
 gateway_then : IsExact → (g : Gateway) (t at : ℕ) → channel_deadline g.channel ≡ Some t → t ≤ at → at < last_time → gateway_expired g at ≡ Nothing → ⊥
 unfolding gateway_expired
 gateway_then law g t at is past early none = (law g.channel at early).0 (subst (λ (o : Option ℕ). Reached o at) (sym is) past) none
@@ -184,24 +130,20 @@ before_gateway n devices nearest at is before = by_time (gateway_time n) refl
     by_time None e = tt
     by_time (Some t) e = by_nearest nearest t e refl before
 
-its_channel : (n : LineNow) (w : World) → IsNow n w → w.tunnel.gateway.channel ≡ n.tunnel.gateway.end.channel
-its_channel n w is = ap (λ (e : GatewayEnd). e.channel) is.tunnel.gateway.end
-
--- where nothing is to be sent now, nothing is up to the nearest time
 pub still : IsExact → (n : LineNow) (w : World) (devices nearest : Option ℕ) (at : ℕ) → IsNow n w → IsDeadline n devices nearest → HasNothingToSend w (now w) → IsBefore at nearest → HasNothingToSend w at
 still law n w devices nearest at is deadline nothing before = record {
   devices = λ a d there.
       let here : device_at n.devices a ≡ Some d = sym (is.devices a) ∙ there in
       let time : IsBefore at (device_deadline d.connection) = subst (λ (o : Option DeviceState). IsBefore at (deadline_at o)) here (before_devices n devices nearest at a deadline before) in
       device_still d at (nothing_left d (now w) (nothing.devices a d there)) time;
-  gateway = gateway_still law w.tunnel.gateway at (subst (λ (c : Option Channel). IsBefore at (channel_deadline c)) (sym (its_channel n w is)) (before_gateway n devices nearest at deadline before));
+  gateway = gateway_still law w.tunnel.gateway at (subst (λ (c : Option Channel). IsBefore at (channel_deadline c)) (sym (its_channel n.tunnel w.tunnel is.tunnel)) (before_gateway n devices nearest at deadline before));
 }
 
 -- from the nearest time on something is
 pub from_then : IsExact → (n : LineNow) (w : World) (devices nearest : Option ℕ) (end at : ℕ) → IsNow n w → IsDeadline n devices nearest → nearest ≡ Some end → end ≤ at → at < last_time → ¬ HasNothingToSend w at
 from_then law n w devices nearest end at is deadline some past early nothing = elim (least_of_both devices (gateway_time n) end (sym deadline.is ∙ some)).2 [
   | inl of_device ↦ let found = deadline.of_devices.named end of_device in by_there found.0 (device_at n.devices found.0) refl found.1
-  | inr of_gateway ↦ gateway_then law w.tunnel.gateway end at (ap channel_deadline (its_channel n w is) ∙ of_gateway) past early nothing.gateway
+  | inr of_gateway ↦ gateway_then law w.tunnel.gateway end at (ap channel_deadline (its_channel n.tunnel w.tunnel is.tunnel) ∙ of_gateway) past early nothing.gateway
 ]
   where
     by_there : (a : ℕ) (o : Option DeviceState) → device_at n.devices a ≡ o → deadline_at (device_at n.devices a) ≡ Some end → ⊥

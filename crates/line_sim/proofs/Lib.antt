@@ -1,5 +1,3 @@
-pub mod Taking
-pub mod Tunnels
 pub mod Bits
 pub mod Coming
 pub mod Nearest

@@ -11,9 +11,10 @@ use Rattle.line_model.specs.Deliveries.{effect_at}
 use Rattle.line_model.specs.Tunnel as tunnel
 use Rattle.line_model.specs.Tunnel.{Tunnel, Carried, Heard, Elsewhere}
 use Rattle.line_model.specs.World.{World, AtGateway, Comes, IsLost, Devices, Bus, BusAgain, BusTorn, BusWorn, DevSend, DevRepeat, all_take, carried, changed, confirmation, frame_by, heard, is_among, next_frame, none_if, one_takes, or_before, others_take, step, takes_it, repeat_at, waiting_at}
-use Rattle.line_sim.specs.Line.{LineNow, IsNow, confirmed, effect_due, effect_on, frame_due, write_at, write_due}
+use Rattle.tunnel_sim.specs.Gateways.{confirmed}
+use Rattle.line_sim.specs.Line.{LineNow, IsNow, effect_due, effect_on, frame_due, write_at, write_due}
 use Rattle.line_sim.specs.Places.{DevicesNow, AreDevices, ComesTo, device_at, is_taken_by}
-use Rattle.line_sim.specs.Tunnels.{TunnelNow, IsTunnel}
+use Rattle.tunnel_sim.specs.Tunnels.{TunnelNow, IsTunnel}
 
 -- ---- a frame of the client
 

@@ -20,9 +20,9 @@ use Rattle.line_model.specs.Legal.{MayHappen, OfDevice, CanRepeat}
 use Rattle.line_model.specs.Tunnel as tunnel
 use Rattle.line_model.specs.Tunnel.{Tunnel, Mode}
 use Rattle.line_model.specs.World.{World, AtGateway, DevRepeat, GwClose, GwRepeat, now, repeat_at}
-use Rattle.line_sim.specs.declared.gateway.Due.TheVariants as due
+use Rattle.tunnel_sim.specs.declared.gateway.Due.TheVariants as due
 use Rattle.line_sim.specs.Allowed.{MayGoSo}
-use Rattle.line_sim.specs.Gateways.{due_of}
+use Rattle.tunnel_sim.specs.Gateways.{due_of}
 use Rattle.line_sim.specs.Line.{LineNow, effect_due, effect_on, frame_due, write_at, write_due}
 use Rattle.line_sim.specs.Places.{device_at, sending_at}
 use Rattle.line_sim.proofs.Allowing.{hears}

@@ -15,10 +15,10 @@ use Rattle.network_sim.specs.declared.place.Reach.{Reach}
 use Rattle.network_sim.specs.declared.place.Reach.TheVariants.{Every, To}
 use Rattle.network_sim.specs.Arriving.{AllOver}
 use Rattle.network_sim.proofs.Over.{all_over}
-use Rattle.line_sim.specs.declared.gateway.Due.{Due}
-use Rattle.line_sim.specs.declared.gateway.Due.TheVariants as due
+use Rattle.tunnel_sim.specs.declared.gateway.Due.{Due}
+use Rattle.tunnel_sim.specs.declared.gateway.Due.TheVariants as due
 use Rattle.line_sim.specs.Due.{IsSettledWithin}
-use Rattle.line_sim.specs.Gateways.{due_of}
+use Rattle.tunnel_sim.specs.Gateways.{due_of}
 use Rattle.line_sim.specs.Places.{sending_at}
 
 -- ---- tests
@@ -92,9 +92,6 @@ settled_in_run w = ((λ s. record { up = s.up; down = s.down; bus = s.bus; nothi
 
 pub both_ways : {P Q R : Type 0} → P ↔ Q → Q ↔ R → P ↔ R
 both_ways f g = ((λ p. g.0 (f.0 p)), (λ r. f.1 (g.1 r)))
-
-pub joined : (x a b c d e f : Bool) → x ≡ (a && b) → a ≡ (c && d) → b ≡ (e && f) → x ≡ ((c && d) && (e && f))
-joined x a b c d e f p q r = p ∙ ap (λ (y : Bool). y && b) q ∙ ap (λ (y : Bool). (c && d) && y) r
 
 no_frame : (w : World) → next_frame w ≡ None → w.tunnel.gateway.bus ≡ []
 no_frame w h = by_bus w.tunnel.gateway.bus h

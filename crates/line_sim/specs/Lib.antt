@@ -1,5 +1,3 @@
-pub mod Gateways
-pub mod Tunnels
 pub mod Parts
 pub mod Places
 pub mod Group

@@ -1,8 +1,7 @@
 -- The line as it is held: the tunnel, the devices, and the bus's last frame where a device sent it; and of which worlds it is a picture.
-use Rattle.std.specs.Prelude.{◌≡◌, ℕ, ◌-◌, ◌*◌, ◌^◌, ◌<◌, ◌≤◌, Bool, false, not, length, Option, Some, None}
+use Rattle.std.specs.Prelude.{◌≡◌, ℕ, ◌-◌, ◌*◌, ◌^◌, ◌<◌, ◌≤◌, Bool, false, length, Option, Some, None}
 use Rattle.knx_model.specs.declared.device.WriteKind.{WriteKind}
 use Rattle.knx_model.specs.declared.frames.cemi.Ldata.{Ldata}
-use Rattle.knx_model.specs.declared.frames.cemi.LdataCode.TheVariants.{Con}
 use Rattle.knx_model.specs.ApduReading.{option_map}
 use Rattle.knx_model.specs.Device.{Effect, Nothing}
 use Rattle.knx_model.specs.DeviceSending.{first_frame}
@@ -11,7 +10,7 @@ use Rattle.line_model.specs.Deliveries.{effect_at}
 use Rattle.line_model.specs.Tunnel.{Tunnel, made}
 use Rattle.line_model.specs.World.{World, frame_by, on_bus}
 use Rattle.line_sim.specs.Places.{DevicesNow, AreDevices, device_at}
-use Rattle.line_sim.specs.Tunnels.{TunnelNow, IsTunnel}
+use Rattle.tunnel_sim.specs.Tunnels.{TunnelNow, IsTunnel}
 
 pub record LineNow : Type 0 where
   pub tunnel : TunnelNow
@@ -60,10 +59,6 @@ taken_in w (Some frame) = takes_alone (w.devices frame.destination) (Some frame)
 -- the frame that a device got last
 abbrev pub last_at : World → ℕ → Option Ldata
 last_at w device = frame_by (λ d. d.last) (w.devices device)
-
--- a frame's confirmation, where it is to a group or the device that it is for took it, or not
-abbrev pub confirmed : Ldata → Bool → Ldata
-confirmed frame is_confirmed = record frame { code = Con; error = not is_confirmed }
 
 -- ---- what can be counted with 64 bits
 

@@ -11,7 +11,7 @@ mod words;
 pub use call_words::{Case, JobKind, JobWord};
 pub use knx_model::{Counts, Sign};
 pub use laws::{a_run_is_done_where_each_job_is, a_run_is_read_from_its_text};
-pub use line_report::{DeviceShown, line_report_of, line_status, sums_text};
+pub use line_report::{DeviceShown, line_report_of, line_status, put_fault, sums_text};
 pub use pieces::{put_digits, put_hex, put_value};
 pub use project::{counts_text, tables_text};
 pub use refusal::{NO_MEMORY, USAGE, stop_status, stop_text};

@@ -11,6 +11,8 @@ pub mod Told
 pub mod Items
 pub mod Through
 pub mod Works
+pub mod Grown
+pub mod Watched
 pub mod Sites
 pub mod Running
 pub mod Sends

@@ -26,11 +26,11 @@ use Rattle.hub_core.specs.Since.{CausedSince}
 use Rattle.telegram_router.specs.Ends.{Feeding}
 use Rattle.shared_hub.specs.Runs.{RunsOf}
 use Rattle.shared_hub.specs.declared.item.Item.{Item}
-use Rattle.shared_hub.specs.Items.{opening_in, relay_in, HasTold}
+use Rattle.shared_hub.specs.Items.{opening_in, relay_in, watcher_in, HasTold}
 use Rattle.shared_hub.specs.Relays.{KeepsFirst, SameButMissed}
 use Rattle.shared_hub.specs.Sites.{SiteKeeps, SiteSeen, IsOpening, items_of}
 use Rattle.shared_hub.specs.Works.{AllDone, Leads, WasDone}
-use Rattle.shared_hub.proofs.Items.{ended_is, log_is, opens_after, relays_after}
+use Rattle.shared_hub.proofs.Items.{ended_is, log_is, opens_after, relays_after, watches_after}
 use Rattle.shared_hub.proofs.Hearing.{keeps_heard}
 use Rattle.shared_hub.proofs.Through.{all_over}
 use Rattle.shared_hub.proofs.Told.{told_for}
@@ -72,7 +72,7 @@ pub told_by : (n m : ℕ) → n ≡ m → (tasks : List Task) (devices : List In
 told_by n m e tasks devices turns story place {report} tells = subst (λ (k : ℕ). TellsRun k tasks devices turns story place report) e tells
 
 -- a site that has begun is the first of its list
-pub leads_first : {L : Type 0} (n : ℕ) (relay : TableId) (s : SiteSeen L) (hub : Seen L) (items : List (Item L)) → items ≡ items_of s → s.opening.value ≡ hub → s.relay.value ≡ relay → hub.crew ≡ replicate n None → Leads n relay items
+pub leads_first : {L W : Type 0} (n : ℕ) (relay : TableId) (s : SiteSeen L W) (hub : Seen L) (items : List (Item L W)) → items ≡ items_of s → s.opening.value ≡ hub → s.relay.value ≡ relay → hub.crew ≡ replicate n None → Leads n relay items
 leads_first n relay s hub items e opening is crew = subst (Leads n relay) (sym e) (record {
   hub = s.opening.value;
   opens = refl;
@@ -81,19 +81,25 @@ leads_first n relay s hub items e opening is crew = subst (Leads n relay) (sym e
 })
 
 -- where nothing ended it, all is done
-pub site_done : {L : Type 0} (story_of : L → Story) (script_of : L → Script) (faults_of : L → ℕ) (n count : ℕ) (s : SiteSeen L) → SiteKeeps story_of script_of faults_of s.hub s.opening.value s.feed s.relay.value → length s.opening.value.crew ≡ n → 1 ≤ n
+pub site_done : {L W : Type 0} (story_of : L → Story) (script_of : L → Script) (faults_of : L → ℕ) (n count : ℕ) (s : SiteSeen L W) → SiteKeeps story_of script_of faults_of s.hub s.opening.value s.feed s.relay.value → length s.opening.value.crew ≡ n → 1 ≤ n
     → ((jobs : List Job) → AreJobsOf s.hub.devices jobs → IsLog jobs s.hub.turns count s.hub.log) → AllDone n (items_of s) → WasDone HasTold (items_of s) → s.hub.fault ≡ None → HubDone s.hub
 site_done story_of script_of faults_of n count s keeps many some form each told fine =
     all_over s.hub s.opening.value n count keeps.since.run.devices keeps.since.run.turns form (subst (λ (k : ℕ). IsOfWorkers k s.hub.log) many keeps.seats) (items_of s) refl (log_is s) (ended_is s ∙ ap is_some fine) some each told
 
 -- the list of the site that is left begins with the hub that it began with
-pub same_opening : {L : Type 0} (first last : SiteSeen L) (opening : List (Item L)) → opening ≡ items_of first → IsPrefix opening (items_of last) → last.opening.value ≡ first.opening.value
+pub same_opening : {L W : Type 0} (first last : SiteSeen L W) (opening : List (Item L W)) → opening ≡ items_of first → IsPrefix opening (items_of last) → last.opening.value ≡ first.opening.value
 same_opening first last opening e p =
-    let z : opening_in (items_of last) ≡ Some first.opening.value = opens_after opening (items_of last) first.opening.value p (subst (λ (l : List (Item _)). opening_in l ≡ Some first.opening.value) (sym e) refl) in
+    let z : opening_in (items_of last) ≡ Some first.opening.value = opens_after opening (items_of last) first.opening.value p (subst (λ (l : List (Item _ _)). opening_in l ≡ Some first.opening.value) (sym e) refl) in
     cc
 
 -- and with its relay
-pub same_relay : {L : Type 0} (first last : SiteSeen L) (opening : List (Item L)) → opening ≡ items_of first → IsPrefix opening (items_of last) → last.relay.value ≡ first.relay.value
+pub same_relay : {L W : Type 0} (first last : SiteSeen L W) (opening : List (Item L W)) → opening ≡ items_of first → IsPrefix opening (items_of last) → last.relay.value ≡ first.relay.value
 same_relay first last opening e p =
-    let z : relay_in (items_of last) ≡ Some first.relay.value = relays_after opening (items_of last) first.relay.value p (subst (λ (l : List (Item _)). relay_in l ≡ Some first.relay.value) (sym e) refl) in
+    let z : relay_in (items_of last) ≡ Some first.relay.value = relays_after opening (items_of last) first.relay.value p (subst (λ (l : List (Item _ _)). relay_in l ≡ Some first.relay.value) (sym e) refl) in
+    cc
+
+-- and with who watched then
+pub same_watched : {L W : Type 0} (first last : SiteSeen L W) (opening : List (Item L W)) → opening ≡ items_of first → IsPrefix opening (items_of last) → last.watched.value ≡ first.watched.value
+same_watched first last opening e p =
+    let z : watcher_in (items_of last) ≡ Some first.watched.value = watches_after opening (items_of last) first.watched.value p (subst (λ (l : List (Item _ _)). watcher_in l ≡ Some first.watched.value) (sym e) refl) in
     cc

@@ -18,6 +18,7 @@ use Rattle.std.specs.contracts.alloc.Global as heap
 use Rattle.std.specs.contracts.boxed.Box as Box
 use Rattle.std.specs.contracts.impls.GlobalAllocator.TheImpl.{ghosts}
 use Rattle.line_model.specs.declared.outside.link.Link.{Ghosts}
+use Rattle.line_model.specs.declared.outside.watcher.Watcher.{Ghosts as Watching}
 use Rattle.hub_core.proofs.hub.Hub.TheSendSync as hub
 use Rattle.telegram_router.proofs.ends.Feed.TheSendSync as feed
 use Rattle.turn_cell.proofs.seat.Seat.TheSendSync as seat
@@ -28,6 +29,7 @@ use Rattle.turn_cell.specs.contracts.seat.Seat as Seat
 use Rattle.turn_cell.specs.contracts.turn.Turn as Turn
 use Rattle.shared_hub.proofs.listener.Listener.TheSendSync as listener
 use Rattle.shared_hub.proofs.relay.Relay.TheSendSync as relay
+use Rattle.shared_hub.proofs.watching.Watching.TheSendSync as watching
 use Rattle.shared_hub.specs.contracts.item.Item as Item
 use Rattle.shared_hub.specs.contracts.listener.Listener as Listener
 use Rattle.shared_hub.specs.contracts.relay.Relay as Relay
@@ -35,34 +37,34 @@ use Rattle.shared_hub.specs.contracts.site.Site.{the_row}
 use Rattle.shared_hub.specs.contracts.site.SiteLogged.TheImpl as logged
 use Rattle.shared_hub.specs.contracts.site.Site.TheInside as inside
 
-pub fields_send : (T : RattleType) (g : Ghosts T.Denot) → IsSend T → IsSend (inside.the_row T g)
-fields_send T g s = recorded_send (inside.the_field T g).row _ _ (inside.the_type T g).to_one (struct_send (shape (inside.the_type T g)) (hub.the_send T g s, (search (sendable, crosses, feed.the_send), (search (sendable, crosses), (search (sendable, crosses), tt)))))
+pub fields_send : (T V : RattleType) (g : Ghosts T.Denot) (h : Watching V.Denot) → IsSend T → IsSend V → IsSend (inside.the_row T V g h)
+fields_send T V g h s u = recorded_send (inside.the_field T V g h).row _ _ (inside.the_type T V g h).to_one (struct_send (shape (inside.the_type T V g h)) (hub.the_send T g s, (search (sendable, crosses, feed.the_send), (watching.the_send V h u, (search (sendable, crosses), (search (sendable, crosses), (search (sendable, crosses), tt)))))))
 
-pub site_send : (T : RattleType) (g : Ghosts T.Denot) → IsSend T → IsSend (the_row T g)
-site_send T g s = search (sendable, fields_send T g s)
+pub site_send : (T V : RattleType) (g : Ghosts T.Denot) (h : Watching V.Denot) → IsSend T → IsSend V → IsSend (the_row T V g h)
+site_send T V g h s u = search (sendable, fields_send T V g h s u)
 
 -- in a box
-abbrev pub box_row : (T : RattleType) → Ghosts T.Denot → RattleType
-box_row T g = Box.the_row (the_row T g) heap.the_row ghosts
+abbrev pub box_row : (T V : RattleType) → Ghosts T.Denot → Watching V.Denot → RattleType
+box_row T V g h = Box.the_row (the_row T V g h) heap.the_row ghosts
 
-pub box_send : (T : RattleType) (g : Ghosts T.Denot) → IsSend T → IsSend (box_row T g)
-box_send T g s = Box-send (the_row T g) (site_send T g s)
+pub box_send : (T V : RattleType) (g : Ghosts T.Denot) (h : Watching V.Denot) → IsSend T → IsSend V → IsSend (box_row T V g h)
+box_send T V g h s u = Box-send (the_row T V g h) (site_send T V g h s u)
 
-abbrev pub in_box : (T : RattleType) (g : Ghosts T.Denot) → Logged (box_row T g).Denot (Item.the_row T g).Denot
-in_box T g = boxed.ghosts (the_row T g) (Item.the_row T g) (logged.ghosts T g logged.no_dict logged.no_dict) boxed.no_dict boxed.no_dict
+abbrev pub in_box : (T V : RattleType) (g : Ghosts T.Denot) (h : Watching V.Denot) → Logged (box_row T V g h).Denot (Item.the_row T V g).Denot
+in_box T V g h = boxed.ghosts (the_row T V g h) (Item.the_row T V g) (logged.ghosts T V g logged.no_dict h logged.no_dict logged.no_dict logged.no_dict) boxed.no_dict boxed.no_dict
 
 -- its cell, and a seat at the cell
-abbrev pub cell_row : (T : RattleType) → Ghosts T.Denot → RattleType
-cell_row T g = Turn.the_row (box_row T g) (Item.the_row T g) (in_box T g)
+abbrev pub cell_row : (T V : RattleType) → Ghosts T.Denot → Watching V.Denot → RattleType
+cell_row T V g h = Turn.the_row (box_row T V g h) (Item.the_row T V g) (in_box T V g h)
 
-abbrev pub seat_row : (T : RattleType) → Ghosts T.Denot → RattleType
-seat_row T g = Seat.the_row (box_row T g) (Item.the_row T g) (in_box T g)
+abbrev pub seat_row : (T V : RattleType) → Ghosts T.Denot → Watching V.Denot → RattleType
+seat_row T V g h = Seat.the_row (box_row T V g h) (Item.the_row T V g) (in_box T V g h)
 
-pub cell_sync : (T : RattleType) (g : Ghosts T.Denot) → IsSend T → IsSync (cell_row T g)
-cell_sync T g s = turn.the_sync (box_row T g) (Item.the_row T g) (in_box T g) (box_send T g s)
+pub cell_sync : (T V : RattleType) (g : Ghosts T.Denot) (h : Watching V.Denot) → IsSend T → IsSend V → IsSync (cell_row T V g h)
+cell_sync T V g h s u = turn.the_sync (box_row T V g h) (Item.the_row T V g) (in_box T V g h) (box_send T V g h s u)
 
-pub seat_send : (T : RattleType) (g : Ghosts T.Denot) → IsSend T → IsSend (seat_row T g)
-seat_send T g s = seat.the_send (box_row T g) (Item.the_row T g) (in_box T g) (box_send T g s)
+pub seat_send : (T V : RattleType) (g : Ghosts T.Denot) (h : Watching V.Denot) → IsSend T → IsSend V → IsSend (seat_row T V g h)
+seat_send T V g h s u = seat.the_send (box_row T V g h) (Item.the_row T V g) (in_box T V g h) (box_send T V g h s u)
 
 each_send : (Ts : List RattleType) → AllSend Ts → FieldsHave IsSend (parts Ts)
 each_send [] s = tt
@@ -76,23 +78,23 @@ octet_send : IsSend (UInt w8)
 octet_send = search sendable
 
 -- so the workers' goes, which has the runtime, the cell, the relay, a seat, a count and the gate
-pub workers_send : (R T G : RattleType) (g : Ghosts T.Denot) → IsSync R → IsSend T → IsSync G → (layout : Ty) (name : Sym) (ℓ ℓ' ℓ'' ℓ''' : Lifetime) (κ κ' κ'' κ''' : Lft)
-    → IsSend (param 1 (arg layout no (TupleAt name (ShrRef ℓ κ R ∷ ShrRef ℓ' κ' (cell_row T g) ∷ ShrRef ℓ''' κ''' Relay.the_row ∷ seat_row T g ∷ UInt w8 ∷ ShrRef ℓ'' κ'' G ∷ []))))
-workers_send R T G g r t e layout name ℓ ℓ' ℓ'' ℓ''' κ κ' κ'' κ''' =
-    closure_send 1 layout no name (ShrRef ℓ κ R ∷ ShrRef ℓ' κ' (cell_row T g) ∷ ShrRef ℓ''' κ''' Relay.the_row ∷ seat_row T g ∷ UInt w8 ∷ ShrRef ℓ'' κ'' G ∷ [])
-    (shr_send ℓ κ R r, (shr_send ℓ' κ' (cell_row T g) (cell_sync T g t), (shr_send ℓ''' κ''' Relay.the_row relay.the_sync, (seat_send T g t, (octet_send, (shr_send ℓ'' κ'' G e, tt))))))
+pub workers_send : (R T V G : RattleType) (g : Ghosts T.Denot) (h : Watching V.Denot) → IsSync R → IsSend T → IsSend V → IsSync G → (layout : Ty) (name : Sym) (ℓ ℓ' ℓ'' ℓ''' : Lifetime) (κ κ' κ'' κ''' : Lft)
+    → IsSend (param 1 (arg layout no (TupleAt name (ShrRef ℓ κ R ∷ ShrRef ℓ' κ' (cell_row T V g h) ∷ ShrRef ℓ''' κ''' Relay.the_row ∷ seat_row T V g h ∷ UInt w8 ∷ ShrRef ℓ'' κ'' G ∷ []))))
+workers_send R T V G g h r t u e layout name ℓ ℓ' ℓ'' ℓ''' κ κ' κ'' κ''' =
+    closure_send 1 layout no name (ShrRef ℓ κ R ∷ ShrRef ℓ' κ' (cell_row T V g h) ∷ ShrRef ℓ''' κ''' Relay.the_row ∷ seat_row T V g h ∷ UInt w8 ∷ ShrRef ℓ'' κ'' G ∷ [])
+    (shr_send ℓ κ R r, (shr_send ℓ' κ' (cell_row T V g h) (cell_sync T V g h t u), (shr_send ℓ''' κ''' Relay.the_row relay.the_sync, (seat_send T V g h t u, (octet_send, (shr_send ℓ'' κ'' G e, tt))))))
 
 -- and the seat that it comes to
-pub back_send : (T : RattleType) (g : Ghosts T.Denot) → IsSend T → (layout : Ty) → IsSend (param 3 (arg layout no (seat_row T g)))
-back_send T g s layout = param_send 3 _ (arg_send layout no _ (seat_send T g s))
+pub back_send : (T V : RattleType) (g : Ghosts T.Denot) (h : Watching V.Denot) → IsSend T → IsSend V → (layout : Ty) → IsSend (param 3 (arg layout no (seat_row T V g h)))
+back_send T V g h s u layout = param_send 3 _ (arg_send layout no _ (seat_send T V g h s u))
 
 -- so the group thread's goes, which has the runtime, the cell, the relay, a seat and the listener
-pub group_send : (R T : RattleType) (g : Ghosts T.Denot) → IsSync R → IsSend T → (layout : Ty) (name : Sym) (ℓ ℓ' ℓ'' : Lifetime) (κ κ' κ'' : Lft)
-    → IsSend (param 1 (arg layout no (TupleAt name (ShrRef ℓ κ R ∷ ShrRef ℓ' κ' (cell_row T g) ∷ ShrRef ℓ'' κ'' Relay.the_row ∷ seat_row T g ∷ Listener.the_row ∷ []))))
-group_send R T g r t layout name ℓ ℓ' ℓ'' κ κ' κ'' =
-    closure_send 1 layout no name (ShrRef ℓ κ R ∷ ShrRef ℓ' κ' (cell_row T g) ∷ ShrRef ℓ'' κ'' Relay.the_row ∷ seat_row T g ∷ Listener.the_row ∷ [])
-    (shr_send ℓ κ R r, (shr_send ℓ' κ' (cell_row T g) (cell_sync T g t), (shr_send ℓ'' κ'' Relay.the_row relay.the_sync, (seat_send T g t, (listener.the_send, tt)))))
+pub group_send : (R T V : RattleType) (g : Ghosts T.Denot) (h : Watching V.Denot) → IsSync R → IsSend T → IsSend V → (layout : Ty) (name : Sym) (ℓ ℓ' ℓ'' : Lifetime) (κ κ' κ'' : Lft)
+    → IsSend (param 1 (arg layout no (TupleAt name (ShrRef ℓ κ R ∷ ShrRef ℓ' κ' (cell_row T V g h) ∷ ShrRef ℓ'' κ'' Relay.the_row ∷ seat_row T V g h ∷ Listener.the_row ∷ []))))
+group_send R T V g h r t u layout name ℓ ℓ' ℓ'' κ κ' κ'' =
+    closure_send 1 layout no name (ShrRef ℓ κ R ∷ ShrRef ℓ' κ' (cell_row T V g h) ∷ ShrRef ℓ'' κ'' Relay.the_row ∷ seat_row T V g h ∷ Listener.the_row ∷ [])
+    (shr_send ℓ κ R r, (shr_send ℓ' κ' (cell_row T V g h) (cell_sync T V g h t u), (shr_send ℓ'' κ'' Relay.the_row relay.the_sync, (seat_send T V g h t u, (listener.the_send, tt)))))
 
 -- and the seat and the listener that it comes to
-pub both_send : (T : RattleType) (g : Ghosts T.Denot) → IsSend T → (layout : Ty) (name : Sym) → IsSend (param 3 (arg layout no (TupleAt name (seat_row T g ∷ Listener.the_row ∷ []))))
-both_send T g s layout name = closure_send 3 layout no name (seat_row T g ∷ Listener.the_row ∷ []) (seat_send T g s, (listener.the_send, tt))
+pub both_send : (T V : RattleType) (g : Ghosts T.Denot) (h : Watching V.Denot) → IsSend T → IsSend V → (layout : Ty) (name : Sym) → IsSend (param 3 (arg layout no (TupleAt name (seat_row T V g h ∷ Listener.the_row ∷ []))))
+both_send T V g h s u layout name = closure_send 3 layout no name (seat_row T V g h ∷ Listener.the_row ∷ []) (seat_send T V g h s u, (listener.the_send, tt))

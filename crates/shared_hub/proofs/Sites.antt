@@ -34,6 +34,7 @@ use Rattle.shared_hub.specs.Items.{log_in, HasFinished, HasTold}
 use Rattle.shared_hub.specs.Relays.{KeepsOrMisses, SameButMissed}
 use Rattle.shared_hub.specs.Sites.{SiteSeen, SiteKeeps, IsOpening, items_of}
 use Rattle.shared_hub.specs.Steps.{HasFailed, Steps, IsOn, GoesOn, step_of, step_of_group}
+use Rattle.shared_hub.specs.Watchers.{LogsBy}
 use Rattle.shared_hub.proofs.Hearing.{hears_failed_so, hears_none_so, hears_one_so, new_hears_none}
 use Rattle.shared_hub.proofs.Items.{items_same, items_told, items_ended, ended_is, log_is}
 use Rattle.shared_hub.proofs.New.{new_goes_through}
@@ -82,29 +83,29 @@ module _ {L : Type 0} (story_of : L → Story) (script_of : L → Script) (fault
 
 -- ---- what is added
 
-module _ {L : Type 0} (old new : SiteSeen L) (opening : new.opening ≡ old.opening) (relay : new.relay ≡ old.relay) where
+module _ {L W : Type 0} (old new : SiteSeen L W) (opening : new.opening ≡ old.opening) (relay : new.relay ≡ old.relay) (watched : new.watched ≡ old.watched) where
   -- a call that failed: it tells nothing
   pub fails_so : (why : HubFault) → new.hub.log ≡ old.hub.log → old.hub.fault ≡ None → new.hub.fault ≡ Some why → HasFailed (items_of old) (items_of new)
-  fails_so why log was is = (inr (why, items_ended old new opening relay why log was is), ended_is new ∙ ap is_some is)
+  fails_so why log was is = (inr (why, items_ended old new opening relay watched why log was is), ended_is new ∙ ap is_some is)
 
   pub still_so : new.hub.log ≡ old.hub.log → old.hub.fault ≡ None → new.hub.fault ≡ None → items_of new ≡ items_of old
-  still_so log was is = items_same old new opening relay log (is ∙ sym was)
+  still_so log was is = items_same old new opening relay watched log (is ∙ sym was)
 
 -- it had failed before
-pub failed_so : {L : Type 0} (site : SiteSeen L) → is_some site.hub.fault ≡ true → HasFailed (items_of site) (items_of site)
+pub failed_so : {L W : Type 0} (site : SiteSeen L W) → is_some site.hub.fault ≡ true → HasFailed (items_of site) (items_of site)
 failed_so site e = (inl refl, ended_is site ∙ e)
 
 -- ---- a worker's turn, and a telegram's step
 
-module _ {L : Type 0} (old new : SiteSeen L) (opening : new.opening ≡ old.opening) (relay : new.relay ≡ old.relay) (was : old.hub.fault ≡ None) (is : new.hub.fault ≡ None) where
+module _ {L W : Type 0} (old new : SiteSeen L W) (opening : new.opening ≡ old.opening) (relay : new.relay ≡ old.relay) (watched : new.watched ≡ old.watched) (was : old.hub.fault ≡ None) (is : new.hub.fault ≡ None) where
   adds_so : (at worker : ℕ) (what : LogWhat) → Adds at worker what old.hub.log new.hub.log → items_of new ≡ items_of old ++ Told (record { at = at; worker = worker; what = what }) ∷ []
-  adds_so at worker what h = items_told old new opening relay (record { at = at; worker = worker; what = what }) h was is
+  adds_so at worker what h = items_told old new opening relay watched (record { at = at; worker = worker; what = what }) h was is
 
   tells_so : (at worker : ℕ) (what : LogWhat) → Adds at worker what old.hub.log new.hub.log → (e : LogEntry) × (e.worker ≡ worker) × (items_of new ≡ items_of old ++ Told e ∷ [])
   tells_so at worker what h = (record { at = at; worker = worker; what = what }, refl, adds_so at worker what h)
 
   same_so : new.hub.log ≡ old.hub.log → items_of new ≡ items_of old
-  same_so log = still_so old new opening relay log was is
+  same_so log = still_so old new opening relay watched log was is
 
   pub turn_steps : (at worker : ℕ) (turned : Turned) → TurnTells at worker turned old.hub.log new.hub.log → (turned ≡ answer.NoMore → HasFinished worker (items_of new)) → Steps (HasFinished worker) worker (items_of old) (items_of new) (step_of turned)
   turn_steps at worker (answer.Took job) told finished = (at, adds_so at worker _ told)
@@ -121,6 +122,25 @@ module _ {L : Type 0} (old new : SiteSeen L) (opening : new.opening ≡ old.open
   group_steps at k did.Wait told = same_so told
   group_steps at k did.Sent told = tells_so at 0 _ told
   group_steps at k did.Lost told = tells_so at 0 _ told
+
+-- ---- what they add to the log
+
+module _ (old new : List LogEntry) where
+  pub turn_logs : (at worker : ℕ) (turned : Turned) → TurnTells at worker turned old new → LogsBy (step_of turned) old new
+  turn_logs at worker (answer.Took job) told = (_, told)
+  turn_logs at worker answer.Moved told = told
+  turn_logs at worker answer.Wait told = told
+  turn_logs at worker (answer.Done job) told = (_, told)
+  turn_logs at worker (answer.Failed job) told = (_, told.1)
+  turn_logs at worker (answer.Refused job) told = (_, told.3)
+  turn_logs at worker answer.Later told = told
+  turn_logs at worker answer.NoMore told = told
+
+  pub group_logs : (at k : ℕ) (did : GroupDid) → GroupTells at k did old new → LogsBy (step_of_group did) old new
+  group_logs at k did.Put told = told
+  group_logs at k did.Wait told = told
+  group_logs at k did.Sent told = (_, told)
+  group_logs at k did.Lost told = (_, told)
 
 -- ---- whether the hub goes on, in which something was left
 
@@ -151,15 +171,18 @@ none_of None e = refl
 none_of (Some x) e = absurd (let isnt : true ≡ false = e in cc)
 
 -- the list tells its origin
-pub opening_same : {L : Type 0} (a b : SiteSeen L) → items_of a ≡ items_of b → a.opening ≡ b.opening
+pub opening_same : {L W : Type 0} (a b : SiteSeen L W) → items_of a ≡ items_of b → a.opening ≡ b.opening
 opening_same a b e = cc
 
-pub relay_same : {L : Type 0} (a b : SiteSeen L) → items_of a ≡ items_of b → a.relay ≡ b.relay
+pub watched_same : {L W : Type 0} (a b : SiteSeen L W) → items_of a ≡ items_of b → a.watched ≡ b.watched
+watched_same a b e = cc
+
+pub relay_same : {L W : Type 0} (a b : SiteSeen L W) → items_of a ≡ items_of b → a.relay ≡ b.relay
 relay_same a b e = cc
 
 -- ---- a worker has finished by the hub's log, and the telegrams are told by it
 
-module _ {L : Type 0} (s : SiteSeen L) where
+module _ {L W : Type 0} (s : SiteSeen L W) where
   pub finished_so : (worker : ℕ) → s.hub.devices ≡ s.opening.value.devices → ((jobs : List Job) → AreJobsOf s.hub.devices jobs → work.HasFinished worker jobs s.hub.log) → HasFinished worker (items_of s)
   finished_so worker devices h other e jobs are =
       let same : s.opening.value ≡ other = (let z : Some s.opening.value ≡ Some other = e in cc) in

@@ -90,7 +90,7 @@ told_more turns (e ∷ more) log u = told_more turns more log (u.0, u.1, by_test
 
 -- ---- a list that goes on
 
-module _ {L : Type 0} (xs ys : List (Item L)) (hub : Seen L) (opens : opening_in xs ≡ Some hub) (p : IsPrefix xs ys) where
+module _ {L W : Type 0} (xs ys : List (Item L W)) (hub : Seen L) (opens : opening_in xs ≡ Some hub) (p : IsPrefix xs ys) where
   same_hub : (other : Seen L) → opening_in ys ≡ Some other → opening_in xs ≡ Some other
   same_hub other e = opens ∙ (sym (opens_after xs ys hub p opens) ∙ e)
 
@@ -108,7 +108,7 @@ module _ {L : Type 0} (xs ys : List (Item L)) (hub : Seen L) (opens : opening_in
 
 -- ---- all of them
 
-not_ended : {L : Type 0} (P : List (Item L) → Type 0) (items : List (Item L)) → has_ended items ≡ false → IsDone P items → P items
+not_ended : {L W : Type 0} (P : List (Item L W) → Type 0) (items : List (Item L W)) → has_ended items ≡ false → IsDone P items → P items
 not_ended P items fine (inl e) = absurd (let z : true ≡ false = sym e ∙ fine in cc)
 not_ended P items fine (inr h) = h
 
@@ -118,29 +118,30 @@ module _ {L : Type 0} (hub opening : Seen L) (n count : ℕ) (devices : hub.devi
   over_by jobs are k there (Held by since) e some each = (let h = held_by n k count jobs hub.turns hub.log by since (form jobs are) seats e in absurd ((each by h.1 h.2).holds_none k since e))
   over_by jobs are k there Over e some each = refl
 
-  -- who was done when the list was shorter is done
-  finished_now : (items : List (Item L)) → opening_in items ≡ Some opening → log_in items ≡ hub.log → has_ended items ≡ false → (worker : ℕ) → WasDone (HasFinished worker) items → HasFinished worker items
-  finished_now items opens log fine worker was =
-      let same : was.hub ≡ opening = (let z : Some was.hub ≡ Some opening = sym (opens_after was.before items was.hub was.begins was.opens) ∙ opens in cc) in
-      let right : (jobs : List Job) → AreJobsOf was.hub.devices jobs → IsLog jobs was.hub.turns count (log_in items) = (λ jobs are.
-      subst (λ (h : Seen L). IsLog jobs h.turns count (log_in items)) (sym same) (subst (λ (ts : List GroupTurn). IsLog jobs ts count (log_in items)) turns
-      (subst (IsLog jobs hub.turns count) (sym log) (form jobs (subst (λ (ds : List IndAddr). AreJobsOf ds jobs) (sym devices) (subst (λ (h : Seen L). AreJobsOf h.devices jobs) same are)))))) in
-      not_ended (HasFinished worker) items fine (finished_after was.before items was.hub was.opens was.begins worker count right was.done)
+  module _ {W : Type 0} where
+    -- who was done when the list was shorter is done
+    finished_now : (items : List (Item L W)) → opening_in items ≡ Some opening → log_in items ≡ hub.log → has_ended items ≡ false → (worker : ℕ) → WasDone (HasFinished worker) items → HasFinished worker items
+    finished_now items opens log fine worker was =
+        let same : was.hub ≡ opening = (let z : Some was.hub ≡ Some opening = sym (opens_after was.before items was.hub was.begins was.opens) ∙ opens in cc) in
+        let right : (jobs : List Job) → AreJobsOf was.hub.devices jobs → IsLog jobs was.hub.turns count (log_in items) = (λ jobs are.
+        subst (λ (h : Seen L). IsLog jobs h.turns count (log_in items)) (sym same) (subst (λ (ts : List GroupTurn). IsLog jobs ts count (log_in items)) turns
+        (subst (IsLog jobs hub.turns count) (sym log) (form jobs (subst (λ (ds : List IndAddr). AreJobsOf ds jobs) (sym devices) (subst (λ (h : Seen L). AreJobsOf h.devices jobs) same are)))))) in
+        not_ended (HasFinished worker) items fine (finished_after was.before items was.hub was.opens was.begins worker count right was.done)
 
-  pub all_over : (items : List (Item L)) → opening_in items ≡ Some opening → log_in items ≡ hub.log → has_ended items ≡ false → 1 ≤ n → AllDone n items → WasDone HasTold items → HubDone hub
-  all_over items opens log fine some each told = record {
-    jobs = λ jobs are k there. over_by jobs are k there (state_of k hub.log) refl some (λ worker from_1 within. subst (work.HasFinished worker jobs) log
-        (finished_now items opens log fine worker (each worker from_1 within) opening opens jobs (subst (λ (ds : List IndAddr). AreJobsOf ds jobs) devices are)));
-    telegrams = λ u. not_ended HasTold items fine (told_after told.before items told.hub told.opens told.begins told.done) opening opens
-        (subst (TurnUnfinished opening.turns) (sym log) (subst (λ (ts : List GroupTurn). TurnUnfinished ts hub.log) turns u));
-  }
+    pub all_over : (items : List (Item L W)) → opening_in items ≡ Some opening → log_in items ≡ hub.log → has_ended items ≡ false → 1 ≤ n → AllDone n items → WasDone HasTold items → HubDone hub
+    all_over items opens log fine some each told = record {
+      jobs = λ jobs are k there. over_by jobs are k there (state_of k hub.log) refl some (λ worker from_1 within. subst (work.HasFinished worker jobs) log
+          (finished_now items opens log fine worker (each worker from_1 within) opening opens jobs (subst (λ (ds : List IndAddr). AreJobsOf ds jobs) devices are)));
+      telegrams = λ u. not_ended HasTold items fine (told_after told.before items told.hub told.opens told.begins told.done) opening opens
+          (subst (TurnUnfinished opening.turns) (sym log) (subst (λ (ts : List GroupTurn). TurnUnfinished ts hub.log) turns u));
+    }
 
-  -- where all is done, each worker has finished
-  pub all_finished : HubDone hub → (items : List (Item L)) → opening_in items ≡ Some opening → log_in items ≡ hub.log → (worker : ℕ) → HasFinished worker items
-  all_finished done items opens log worker other e jobs are =
-      let same : opening ≡ other = (let z : Some opening ≡ Some other = sym opens ∙ e in cc) in
-      let his : AreJobsOf hub.devices jobs = subst (λ (ds : List IndAddr). AreJobsOf ds jobs) (sym devices) (subst (λ (h : Seen L). AreJobsOf h.devices jobs) (sym same) are) in
-      subst (work.HasFinished worker jobs) (sym log) (record {
-        all_taken = λ k there z. (let y : Over ≡ Untaken = sym (done.jobs jobs his k there) ∙ z in cc);
-        holds_none = λ k since z. (let there = (held_by n k count jobs hub.turns hub.log worker since (form jobs his) seats z).0 in let y : Over ≡ Held worker since = sym (done.jobs jobs his k there) ∙ z in cc);
-      })
+    -- where all is done, each worker has finished
+    pub all_finished : HubDone hub → (items : List (Item L W)) → opening_in items ≡ Some opening → log_in items ≡ hub.log → (worker : ℕ) → HasFinished worker items
+    all_finished done items opens log worker other e jobs are =
+        let same : opening ≡ other = (let z : Some opening ≡ Some other = sym opens ∙ e in cc) in
+        let his : AreJobsOf hub.devices jobs = subst (λ (ds : List IndAddr). AreJobsOf ds jobs) (sym devices) (subst (λ (h : Seen L). AreJobsOf h.devices jobs) (sym same) are) in
+        subst (work.HasFinished worker jobs) (sym log) (record {
+          all_taken = λ k there z. (let y : Over ≡ Untaken = sym (done.jobs jobs his k there) ∙ z in cc);
+          holds_none = λ k since z. (let there = (held_by n k count jobs hub.turns hub.log worker since (form jobs his) seats z).0 in let y : Over ≡ Held worker since = sym (done.jobs jobs his k there) ∙ z in cc);
+        })

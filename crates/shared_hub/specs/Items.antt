@@ -10,46 +10,51 @@ use Rattle.hub_core.specs.Seen.{Seen}
 use Rattle.shared_hub.specs.declared.item.Item.{Item}
 use Rattle.shared_hub.specs.declared.item.Item.TheVariants.{Origin, Told, Ended}
 
-module _ {L : Type 0} where
+module _ {L W : Type 0} where
   -- the hub as it began
-  abbrev pub opening_in : List (Item L) → Option (Seen L)
-  opening_in (Origin hub relay ∷ items) = Some hub.value
+  abbrev pub opening_in : List (Item L W) → Option (Seen L)
+  opening_in (Origin hub relay watcher ∷ items) = Some hub.value
   opening_in _ = None
 
   -- the relay of its feed
-  abbrev pub relay_in : List (Item L) → Option TableId
-  relay_in (Origin hub relay ∷ items) = Some relay.value
+  abbrev pub relay_in : List (Item L W) → Option TableId
+  relay_in (Origin hub relay watcher ∷ items) = Some relay.value
   relay_in _ = None
 
+  -- who watched as it began
+  abbrev pub watcher_in : List (Item L W) → Option W
+  watcher_in (Origin hub relay watcher ∷ items) = Some watcher.value
+  watcher_in _ = None
+
   -- the entries of the log, the oldest first
-  abbrev pub entries_in : List (Item L) → List LogEntry
+  abbrev pub entries_in : List (Item L W) → List LogEntry
   entries_in [] = []
   entries_in (Told e ∷ items) = e ∷ entries_in items
   entries_in (x ∷ items) = entries_in items
 
   -- the log as the definitions have it, the newest entry first
-  abbrev pub log_in : List (Item L) → List LogEntry
+  abbrev pub log_in : List (Item L W) → List LogEntry
   log_in items = reverse (entries_in items)
 
-  abbrev pub is_end : Item L → Bool
+  abbrev pub is_end : Item L W → Bool
   is_end (Ended fault) = true
   is_end _ = false
 
   -- nothing more is done
-  abbrev pub has_ended : List (Item L) → Bool
+  abbrev pub has_ended : List (Item L W) → Bool
   has_ended [] = false
   has_ended (x ∷ items) = is_end x || has_ended items
 
   -- each job is taken, and the worker holds none
-  abbrev pub HasFinished : ℕ → List (Item L) → Type 0
+  abbrev pub HasFinished : ℕ → List (Item L W) → Type 0
   HasFinished worker items = (hub : Seen L) → opening_in items ≡ Some hub → (jobs : List Job) → AreJobsOf hub.devices jobs → work.HasFinished worker jobs (log_in items)
 
   -- each group telegram is told
-  abbrev pub HasTold : List (Item L) → Type 0
+  abbrev pub HasTold : List (Item L W) → Type 0
   HasTold items = (hub : Seen L) → opening_in items ≡ Some hub → ¬ TurnUnfinished hub.turns (log_in items)
 
   -- the item is made by this worker, 0 the group thread, or is the end
-  abbrev pub IsOf : ℕ → Item L → Type 0
-  IsOf worker (Origin hub relay) = ⊥
+  abbrev pub IsOf : ℕ → Item L W → Type 0
+  IsOf worker (Origin hub relay watcher) = ⊥
   IsOf worker (Told e) = e.worker ≡ worker
   IsOf worker (Ended fault) = Unit {0}

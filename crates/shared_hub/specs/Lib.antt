@@ -1,5 +1,6 @@
 pub mod Relays
 pub mod Items
+pub mod Watchers
 pub mod Sites
 pub mod Steps
 pub mod Works

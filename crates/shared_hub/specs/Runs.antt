@@ -1,11 +1,17 @@
 -- What a run comes to, whose hub began so: its link goes on and keeps its script, that it failed is told only where its count of faults rose, what is told is told of
 -- the hub's jobs and telegrams and of as many workers as it had.
-use Rattle.std.specs.Prelude.{◌≡◌, ℕ, length}
+use Rattle.std.specs.Prelude.{◌≡◌, ℕ, List, length}
+use Rattle.knx_model.specs.declared.address.IndAddr.{IndAddr}
+use Rattle.line_model.specs.declared.log.LogEntry.{LogEntry}
 use Rattle.line_model.specs.declared.log.Report.{Report}
 use Rattle.line_model.specs.Lines.{Script}
 use Rattle.line_model.specs.LinkStory.{Story}
+use Rattle.line_model.specs.Log.{Job}
+use Rattle.line_model.specs.Watched.{EachShown, Notice, SinceThen, Watch, Watches}
 use Rattle.tunnel_link.specs.Goes.{GoesOn}
-use Rattle.hub_core.specs.Commissioned.{TellsRun}
+use Rattle.tunnel_link.specs.Rights.{WhereTold}
+use Rattle.hub_work.specs.Downloaders.{AreJobsWith, Task}
+use Rattle.hub_core.specs.Commissioned.{TellsRun, log_of}
 use Rattle.hub_core.specs.Seen.{Seen, tasks_seen}
 use Rattle.hub_core.specs.Since.{CausedSince}
 
@@ -14,3 +20,11 @@ pub record RunsOf {L : Type 0} (story_of : L → Story) (place_of : L → ℕ) (
   pub script : script_of after ≡ script_of opening.link
   pub caused : CausedSince (faults_of opening.link) report.fault (faults_of after)
   pub tells : TellsRun (length opening.crew) (tasks_seen opening.jobs) opening.devices opening.turns (story_of after) (place_of after) report
+
+-- who watched was told the log and true reports, since the run began, and nothing else; where the link tells its record, it shows what was reported
+pub record WatchesSo (tasks : List Task) (story : Story) (devices : List IndAddr) (log : List LogEntry) (notices : List Notice) : Type 0 where
+  pub watches : Watches devices log notices
+  pub shown : (jobs : List Job) → AreJobsWith tasks jobs → WhereTold (λ places. EachShown jobs places notices) story
+
+abbrev pub WatchesRun : List Task → Story → List IndAddr → Watch → Watch → Report → Type 0
+WatchesRun tasks story devices before after report = SinceThen (WatchesSo tasks story devices (log_of report)) before after

@@ -13,22 +13,25 @@ use Rattle.shared_hub.specs.declared.item.Item.{Item}
 use Rattle.shared_hub.specs.declared.item.Item.TheVariants.{Origin, Told, Ended}
 use Rattle.shared_hub.specs.Leaving.{GoesThrough}
 use Rattle.shared_hub.specs.Relays.{GoesOnFrom}
+use Rattle.shared_hub.specs.Watchers.{WatcherSeen}
 
--- the hub, the feed into which all goes that is heard, the hub as it began, and the relay of the feed
-pub record SiteSeen (L : Type 0) : Type 0 where
+-- the hub, the feed into which all goes that is heard, who watches, the hub as it began, the relay of the feed, and who watched as it began
+pub record SiteSeen (L W : Type 0) : Type 0 where
   pub hub : Seen L
   pub feed : Feeding
+  pub watching : WatcherSeen
   pub opening : Snapshot (Seen L)
   pub relay : Snapshot TableId
+  pub watched : Snapshot W
 
--- ---- its list: the hub as it began and the relay, the entries of the log, the oldest first, and at last why it has ended
+-- ---- its list: the hub as it began, the relay and who watched then, the entries of the log, the oldest first, and at last why it has ended
 
-abbrev pub ended : {L : Type 0} → Option HubFault → List (Item L)
+abbrev pub ended : {L W : Type 0} → Option HubFault → List (Item L W)
 ended None = []
 ended (Some why) = Ended why ∷ []
 
-abbrev pub items_of : {L : Type 0} → SiteSeen L → List (Item L)
-items_of s = Origin s.opening s.relay ∷ map Told (reverse s.hub.log) ++ ended s.hub.fault
+abbrev pub items_of : {L W : Type 0} → SiteSeen L W → List (Item L W)
+items_of s = Origin s.opening s.relay s.watched ∷ map Told (reverse s.hub.log) ++ ended s.hub.fault
 
 -- ---- a hub that begins: nothing was done on its link
 

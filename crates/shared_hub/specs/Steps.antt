@@ -16,13 +16,13 @@ use Rattle.shared_hub.specs.declared.site.Step.TheVariants.{Took, Moved, Waits, 
 use Rattle.shared_hub.specs.declared.site.Step.TheVariants as step
 use Rattle.shared_hub.specs.Items.{has_ended}
 
-module _ {L : Type 0} where
+module _ {L W : Type 0} where
   -- it has ended, in this turn or before
-  abbrev pub HasFailed : List (Item L) → List (Item L) → Type 0
+  abbrev pub HasFailed : List (Item L W) → List (Item L W) → Type 0
   HasFailed old new = ((new ≡ old) ⊎ ((fault : HubFault) × (new ≡ old ++ Ended fault ∷ []))) × (has_ended new ≡ true)
 
   -- the turn of a worker, 0 the group thread, who has done all that is his where the list is so
-  abbrev pub Steps : (List (Item L) → Type 0) → ℕ → List (Item L) → List (Item L) → Step → Type 0
+  abbrev pub Steps : (List (Item L W) → Type 0) → ℕ → List (Item L W) → List (Item L W) → Step → Type 0
   Steps is_through worker old new (Took job) = (at : ℕ) × (new ≡ old ++ Told (record { at = at; worker = worker; what = log.Took job }) ∷ [])
   Steps is_through worker old new step.Told = (e : LogEntry) × (e.worker ≡ worker) × (new ≡ old ++ Told e ∷ [])
   Steps is_through worker old new Moved = new ≡ old
@@ -31,14 +31,14 @@ module _ {L : Type 0} where
   Steps is_through worker old new Failed = HasFailed old new
 
   -- a poll: it adds no entry to the log
-  abbrev pub Polls : List (Item L) → List (Item L) → Step → Type 0
+  abbrev pub Polls : List (Item L W) → List (Item L W) → Step → Type 0
   Polls old new Moved = new ≡ old
   Polls old new Waits = new ≡ old
   Polls old new Failed = HasFailed old new
   Polls old new _ = ⊥
 
   -- what a call came to and, where it could do nothing, at most a poll
-  abbrev pub OrPolls : Step → List (Item L) → List (Item L) → Step → Type 0
+  abbrev pub OrPolls : Step → List (Item L W) → List (Item L W) → Step → Type 0
   OrPolls Waits old new result = Polls old new result
   OrPolls came old new result = (new ≡ old) × (result ≡ came)
 

@@ -11,19 +11,19 @@ use crate::listener::Listener;
 use crate::relay::Relay;
 use crate::seated::{listen, send_groups, work};
 use crate::site::Site;
-use line_model::{Gate, Link};
+use line_model::{Gate, Link, Watcher};
 use std::sync::Wait;
 use std::thread::{Threads, join};
 use turn_cell::{Seat, Turn};
 
-fn worked<R: Wait, L: Link, G: Gate>(
+fn worked<R: Wait, L: Link, W: Watcher, G: Gate>(
     rt: &R,
-    cell: &Turn<Box<Site<L>>>,
+    cell: &Turn<Box<Site<L, W>>>,
     relay: &Relay,
-    mut seat: Seat<Box<Site<L>>>,
+    mut seat: Seat<Box<Site<L, W>>>,
     worker: u8,
     gate: &G,
-) -> Seat<Box<Site<L>>>
+) -> Seat<Box<Site<L, W>>>
     requires of { seat.cell ≡ cell.now.id }
     requires free { seat.turn ≡ false }
     requires from_1 { 1 ≤ worker }
@@ -36,13 +36,13 @@ fn worked<R: Wait, L: Link, G: Gate>(
 }
 
 /// Sends the group telegrams, and listens until no worker is left.
-fn sent<R: Wait, L: Link>(
+fn sent<R: Wait, L: Link, W: Watcher>(
     rt: &R,
-    cell: &Turn<Box<Site<L>>>,
+    cell: &Turn<Box<Site<L, W>>>,
     relay: &Relay,
-    mut seat: Seat<Box<Site<L>>>,
+    mut seat: Seat<Box<Site<L, W>>>,
     mut listener: Listener,
-) -> (Seat<Box<Site<L>>>, Listener)
+) -> (Seat<Box<Site<L, W>>>, Listener)
     requires of { seat.cell ≡ cell.now.id }
     requires free { seat.turn ≡ false }
     requires leads { Leads 0 relay.now seat.seen }
@@ -57,14 +57,14 @@ fn sent<R: Wait, L: Link>(
 }
 
 /// The workers from 1 to `count`, each in a thread of its own.
-fn all_worked<R: Threads + Wait + Sync, L: Link + Send, G: Gate + Sync>(
+fn all_worked<R: Threads + Wait + Sync, L: Link + Send, W: Watcher + Send, G: Gate + Sync>(
     rt: &R,
-    cell: &Turn<Box<Site<L>>>,
+    cell: &Turn<Box<Site<L, W>>>,
     relay: &Relay,
-    mut seat: Seat<Box<Site<L>>>,
+    mut seat: Seat<Box<Site<L, W>>>,
     count: u8,
     gate: &G,
-) -> Seat<Box<Site<L>>>
+) -> Seat<Box<Site<L, W>>>
     requires of { seat.cell ≡ cell.now.id }
     requires free { seat.turn ≡ false }
     requires some { 1 ≤ count }
@@ -79,11 +79,11 @@ fn all_worked<R: Threads + Wait + Sync, L: Link + Send, G: Gate + Sync>(
     let other = cell.split(&mut seat);
     let (mut all, last) = join(
         rt,
-        move || -> Seat<Box<Site<L>>>
+        move || -> Seat<Box<Site<L, W>>>
             requires { IsSync R.row × IsSync G.row × (seat.cell ≡ cell.now.id) × (seat.turn ≡ false) × (1 < count) × (count ≤ seat.parts + 1) × Leads count relay.now seat.seen }
             ensures { Sees seat result × AllDone (count - 1) result.seen }
         { all_worked(rt, cell, relay, seat, count - 1, gate) },
-        move || -> Seat<Box<Site<L>>>
+        move || -> Seat<Box<Site<L, W>>>
             requires { (other.cell ≡ cell.now.id) × (other.turn ≡ false) × (1 < count) × Leads count relay.now other.seen }
             ensures { Sees other result × WasDone (HasFinished count) result.seen }
         { worked(rt, cell, relay, other, count, gate) },
@@ -94,15 +94,15 @@ fn all_worked<R: Threads + Wait + Sync, L: Link + Send, G: Gate + Sync>(
 
 /// The workers from 1 to `workers` and the group thread, each in a thread of its own, over the cell whose only seat this is. It gives back the site that they
 /// leave, and who listened.
-pub fn all_done<R: Threads + Wait + Sync, L: Link + Send, G: Gate + Sync>(
+pub fn all_done<R: Threads + Wait + Sync, L: Link + Send, W: Watcher + Send, G: Gate + Sync>(
     rt: &R,
-    cell: Turn<Box<Site<L>>>,
-    first: Seat<Box<Site<L>>>,
+    cell: Turn<Box<Site<L, W>>>,
+    first: Seat<Box<Site<L, W>>>,
     relay: &Relay,
     listener: Listener,
     workers: u8,
     gate: &G,
-) -> (Site<L>, Listener)
+) -> (Site<L, W>, Listener)
     requires of { first.cell ≡ cell.id }
     requires free { first.turn ≡ false }
     requires whole { first.parts ≡ 16 }
@@ -121,11 +121,11 @@ pub fn all_done<R: Threads + Wait + Sync, L: Link + Send, G: Gate + Sync>(
     // where no thread can be made the first comes last, when there is nothing more to wait for
     let ((last, listener), mut all) = join(
         rt,
-        move || -> (Seat<Box<Site<L>>>, Listener)
+        move || -> (Seat<Box<Site<L, W>>>, Listener)
             requires { (group.cell ≡ shared.now.id) × (group.turn ≡ false) × Leads 0 relay.now group.seen × (listener.router ≡ relay.now) }
             ensures { Sees group result.0 × WasDone HasTold result.0.seen × (result.1.router ≡ relay.entry.now) }
         { sent(rt, shared, relay, group, listener) },
-        move || -> Seat<Box<Site<L>>>
+        move || -> Seat<Box<Site<L, W>>>
             requires { IsSync R.row × IsSync G.row × (seat.cell ≡ shared.now.id) × (seat.turn ≡ false) × (1 ≤ workers) × (workers ≤ seat.parts) × Leads workers relay.now seat.seen }
             ensures { Sees seat result × AllDone workers result.seen }
         {

@@ -11,6 +11,7 @@ mod relay;
 mod run;
 mod seated;
 mod site;
+mod watching;
 
 pub use heard::Heard;
 pub use item::Item;
@@ -19,3 +20,4 @@ pub use relay::Relay;
 pub use run::commission;
 pub use seated::{listen, send_groups, work};
 pub use site::{Site, Step};
+pub use watching::Watching;

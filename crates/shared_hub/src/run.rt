@@ -10,7 +10,8 @@ ghost use Rattle.hub_work.specs.Requests.{IsTurnInRange};
 ghost use Rattle.line_model.specs.LinkStory.{IsNewLink};
 ghost use Rattle.shared_hub.specs.Sites.{IsOpening, items_of};
 ghost use Rattle.shared_hub.specs.Ends.{HasEndedSo};
-ghost use Rattle.shared_hub.specs.Runs.{RunsOf};
+ghost use Rattle.shared_hub.specs.Runs.{RunsOf, WatchesRun};
+ghost use Rattle.shared_hub.specs.Watchers.{IsWatchedAt};
 ghost use Rattle.telegram_router.specs.Ends.{first_ear, first_feed};
 ghost use Rattle.turn_cell.specs.Seats.{first_seat};
 
@@ -19,11 +20,13 @@ use crate::ending::Ending;
 use crate::listener::Listener;
 use crate::relay::Relay;
 use crate::site::{Parts, Site};
+use crate::watching::Watching;
 use hub_core::{GroupTurn, Hub, HubFault, HubJob};
 use knx_model::{List, NoMemory};
 use line_law::every_safe_interleaving;
-use line_model::{Gate, Link, Report};
+use line_model::{Gate, Link, Report, Watcher};
 use std::alloc::{AllocError, AllocFailed, Global};
+use std::snapshot::Snapshot;
 use std::sync::Wait;
 use std::thread::Threads;
 use telegram_router::Feed;
@@ -85,24 +88,33 @@ fn broken_off(ended: Option<HubFault>, refused: Option<NoMemory>) -> Option<HubF
     }
 }
 
-/// Closes the run that is left so, or was refused a cell, and hands the link back with what is told.
-fn ended<R: Wait, L: Link>(
+/// Closes the run that is left so, or was refused a cell, and hands the link and who watched back with what is told.
+fn ended<R: Wait, L: Link, W: Watcher>(
     rt: &R,
-    site: Site<L>,
+    site: Site<L, W>,
     relay: &Relay,
     listener: Listener,
     refused: Option<NoMemory>,
-) -> (L, Report)
+) -> (L, Report, W)
     requires done { site.hub.fault ≡ None → refused ≡ None → AllDone site.hub }
     requires feed { site.relay.value ≡ relay.now }
     requires listens { listener.router ≡ relay.now }
-    ensures { RunsOf L.story L.place L.script L.faults site.opening.value result.0 result.1 }
+    ensures runs { RunsOf L.story L.place L.script L.faults site.opening.value result.0 result.1 }
+    ensures watched { WatchesRun (tasks_seen site.opening.value.jobs) (L.story result.0) site.opening.value.devices (W.watch site.watched.value) (W.watch result.2) result.1 }
 {
-    let Parts { mut hub, feed } = site.apart();
+    let Parts {
+        mut hub,
+        feed,
+        watching,
+    } = site.apart();
     let heard = listener.close(rt, relay, feed, &mut hub);
     let ended = broken_off(hub.fault(), refused);
-    Ending { hub, heard }.end(rt, ended)
+    let (link, report) = Ending { hub, heard }.end(rt, ended);
+    (link, report, watching.into_watcher())
 }
+
+/// A cell, and its first seat.
+type Begun<L, W> = (Turn<Box<Site<L, W>>>, Seat<Box<Site<L, W>>>);
 
 /// What a box had no memory for.
 fn handed_back<T: Drop>(refused: AllocFailed<T>) -> (T, NoMemory)
@@ -113,10 +125,10 @@ fn handed_back<T: Drop>(refused: AllocFailed<T>) -> (T, NoMemory)
 }
 
 /// A cell with this site, in a box, and the cell's first seat. A refusal hands the site back.
-fn cell_of<L: Link>(
+fn cell_of<L: Link, W: Watcher>(
     alloc: Global,
-    site: Site<L>,
-) -> Result<(Turn<Box<Site<L>>>, Seat<Box<Site<L>>>), (Site<L>, NoMemory)>
+    site: Site<L, W>,
+) -> Result<Begun<L, W>, (Site<L, W>, NoMemory)>
     ensures opening { IfOk result (λ made. made.0.opening ≡ items_of site) }
     ensures seat { IfOk result (λ made. made.1 ≡ first_seat made.0) }
     ensures refused { IfErr result (λ back. back.0 ≡ site) }
@@ -132,28 +144,32 @@ fn cell_of<L: Link>(
 }
 
 /// A run from its beginning to its end.
-fn run<R: Threads + Wait + Sync, L: Link + Send, G: Gate + Sync>(
+fn run<R: Threads + Wait + Sync, L: Link + Send, W: Watcher + Send, G: Gate + Sync>(
     rt: &R,
     alloc: Global,
     hub: Hub<L>,
     listening: Listening,
+    watching: Watching<W>,
+    watched: Snapshot<W>,
     workers: u8,
     gate: &G,
-) -> (L, Report)
+) -> (L, Report, W)
     requires opening { IsOpening L.story hub }
+    requires watched { IsWatchedAt L.story hub hub.log (W.watch watched.value) watching }
     requires crew { hub.crew ≡ replicate workers None }
     requires feed { listening.feed ≡ first_feed listening.relay }
     requires listener { listening.listener ≡ first_ear listening.relay }
     requires some_worker { 1 ≤ workers }
     requires few_workers { workers ≤ 8 }
-    ensures { RunsOf L.story L.place L.script L.faults hub result.0 result.1 }
+    ensures runs { RunsOf L.story L.place L.script L.faults hub result.0 result.1 }
+    ensures watched { WatchesRun (tasks_seen hub.jobs) (L.story result.0) hub.devices (W.watch watched.value) (W.watch result.2) result.1 }
 {
     let Listening {
         relay,
         feed,
         listener,
     } = listening;
-    match cell_of(alloc, Site::new(hub, &relay, feed)) {
+    match cell_of(alloc, Site::new(hub, &relay, feed, watching, watched)) {
         Ok((cell, seat)) => {
             let (site, listener) = all_done(rt, cell, seat, &relay, listener, workers, gate);
             site.keeps();
@@ -163,14 +179,16 @@ fn run<R: Threads + Wait + Sync, L: Link + Send, G: Gate + Sync>(
     }
 }
 
-/// A hub, and what listening needs. All memory of the run but that of its cell is taken here; for want of it the link is handed back.
-fn begun<L: Link>(
+/// A hub, what listening needs, and who watches. All memory of the run but that of its cell is taken here; for want of it the link and who watches are handed
+/// back.
+fn begun<L: Link, W: Watcher>(
     alloc: Global,
     jobs: List<HubJob>,
     groups: List<GroupTurn>,
     workers: u8,
     link: L,
-) -> Result<(Hub<L>, Listening), (L, NoMemory)>
+    watcher: W,
+) -> Result<(Hub<L>, Listening, Watching<W>), (L, W, NoMemory)>
     requires some_worker { 1 ≤ workers }
     requires few_workers { workers ≤ 8 }
     requires few_jobs { length jobs < 4294967296 }
@@ -188,22 +206,29 @@ fn begun<L: Link>(
     ensures unbegun { IfOk result (λ made. made.0.closing ≡ None) }
     ensures feed { IfOk result (λ made. made.1.feed ≡ first_feed made.1.relay) }
     ensures listener { IfOk result (λ made. made.1.listener ≡ first_ear made.1.relay) }
+    ensures watched { IfOk result (λ made. IsWatchedAt L.story made.0 [] (W.watch watcher) made.2) }
     ensures handed_back { IfErr result (λ e. e.0 ≡ link) }
+    ensures watcher { IfErr result (λ e. W.watch e.1 ≡ W.watch watcher) }
 {
     let listening = match Listening::new(alloc) {
         Ok(listening) => listening,
-        Err(no_memory) => return Err((link, no_memory)),
+        Err(no_memory) => return Err((link, watcher, no_memory)),
+    };
+    let watching = match Watching::new(alloc, watcher, jobs.len()) {
+        Ok(watching) => watching,
+        Err((watcher, no_memory)) => return Err((link, watcher, no_memory)),
     };
     match Hub::begin(alloc, jobs, groups, workers, link) {
-        Ok(hub) => Ok((hub, listening)),
-        Err(refused) => Err(refused),
+        Ok(hub) => Ok((hub, listening, watching)),
+        Err((link, no_memory)) => Err((link, watching.into_watcher(), no_memory)),
     }
 }
 
 /// Commissions a line by 1 to 8 workers: goes through all jobs, sends all group telegrams, and closes, over a link on which nothing was done. The gate is passed
-/// between taking a job and starting it. It gives the link back, and what is told of the run. Want of memory before the first turn is the report's fault; later a
+/// between taking a job and starting it; who watches is told each entry of the log in the turn in which it is made, and of each job that is held, at most once a
+/// second, how far it is. It gives the link and the watcher back, and what is told of the run. Want of memory before the first turn is the report's fault; later a
 /// group telegram that is heard and can't be kept is counted as missed.
-pub fn commission<R: Threads + Wait + Sync, L: Link + Send, G: Gate + Sync>(
+pub fn commission<R: Threads + Wait + Sync, L: Link + Send, W: Watcher + Send, G: Gate + Sync>(
     rt: &R,
     alloc: Global,
     jobs: List<HubJob>,
@@ -211,20 +236,25 @@ pub fn commission<R: Threads + Wait + Sync, L: Link + Send, G: Gate + Sync>(
     link: L,
     workers: u8,
     gate: &G,
-) -> (L, Report)
+    watcher: W,
+) -> (L, Report, W)
     requires some_worker { 1 ≤ workers }
     requires few_workers { workers ≤ 8 }
     requires few_jobs { length jobs < 4294967296 }
     requires few_groups { length groups < 4294967296 }
     requires sendable { AllByRecursion IsTurnInRange groups }
     requires new { IsNewLink (L.story link) }
-    ensures { Commissioned L.story L.place L.script L.faults workers jobs groups link result.0 result.1 }
+    ensures commissioned { Commissioned L.story L.place L.script L.faults workers jobs groups link result.0 result.1 }
+    ensures watched { WatchesRun (tasks_seen jobs) (L.story result.0) (map (λ (j : JobOfHub). j.device) jobs) (W.watch watcher) (W.watch result.2) result.1 }
 {
-    match begun(alloc, jobs, groups, workers, link) {
-        Ok((hub, listening)) => run(rt, alloc, hub, listening, workers, gate),
-        Err((link, no_memory)) => {
+    let watched = Snapshot::of(&watcher);
+    match begun(alloc, jobs, groups, workers, link, watcher) {
+        Ok((hub, listening, watching)) => run(
+            rt, alloc, hub, listening, watching, watched, workers, gate,
+        ),
+        Err((link, watcher, no_memory)) => {
             every_safe_interleaving();
-            (link, nothing_done(alloc, no_memory))
+            (link, nothing_done(alloc, no_memory), watcher)
         }
     }
 }

@@ -7,17 +7,17 @@ ghost use Rattle.shared_hub.specs.Works.{ComesTo, Got, IsDone, Leads, Stays};
 use crate::listener::Listener;
 use crate::relay::Relay;
 use crate::site::{Site, Step};
-use line_model::{Gate, Link};
+use line_model::{Gate, Link, Watcher};
 use std::sync::Wait;
 use std::thread::yield_now;
 use turn_cell::{Seat, Turn};
 
 /// One turn of a worker.
-fn turn<R: Wait, L: Link>(
+fn turn<R: Wait, L: Link, W: Watcher>(
     rt: &R,
-    cell: &Turn<Box<Site<L>>>,
+    cell: &Turn<Box<Site<L, W>>>,
     relay: &Relay,
-    seat: &mut Seat<Box<Site<L>>>,
+    seat: &mut Seat<Box<Site<L, W>>>,
     worker: u8,
 ) -> Step
     requires of { seat.old.cell ≡ cell.now.id }
@@ -36,11 +36,11 @@ fn turn<R: Wait, L: Link>(
 
 /// Goes through jobs as the worker of this number, from 1, turn by turn, until each job is taken and none is his any longer, or the run has ended. The gate is
 /// passed between taking a job and starting it.
-pub fn work<R: Wait, L: Link, G: Gate>(
+pub fn work<R: Wait, L: Link, W: Watcher, G: Gate>(
     rt: &R,
-    cell: &Turn<Box<Site<L>>>,
+    cell: &Turn<Box<Site<L, W>>>,
     relay: &Relay,
-    seat: &mut Seat<Box<Site<L>>>,
+    seat: &mut Seat<Box<Site<L, W>>>,
     worker: u8,
     gate: &G,
 )
@@ -64,11 +64,11 @@ pub fn work<R: Wait, L: Link, G: Gate>(
 }
 
 /// One turn of the group thread.
-fn group_turn<R: Wait, L: Link>(
+fn group_turn<R: Wait, L: Link, W: Watcher>(
     rt: &R,
-    cell: &Turn<Box<Site<L>>>,
+    cell: &Turn<Box<Site<L, W>>>,
     relay: &Relay,
-    seat: &mut Seat<Box<Site<L>>>,
+    seat: &mut Seat<Box<Site<L, W>>>,
 ) -> Step
     requires of { seat.old.cell ≡ cell.now.id }
     requires free { seat.old.turn ≡ false }
@@ -84,11 +84,11 @@ fn group_turn<R: Wait, L: Link>(
 }
 
 /// Sends the group telegrams in the order of their numbers, turn by turn, until each is told, or the run has ended; and listens between its turns.
-pub fn send_groups<R: Wait, L: Link>(
+pub fn send_groups<R: Wait, L: Link, W: Watcher>(
     rt: &R,
-    cell: &Turn<Box<Site<L>>>,
+    cell: &Turn<Box<Site<L, W>>>,
     relay: &Relay,
-    seat: &mut Seat<Box<Site<L>>>,
+    seat: &mut Seat<Box<Site<L, W>>>,
     listener: &mut Listener,
 )
     requires of { seat.old.cell ≡ cell.now.id }

@@ -8,7 +8,8 @@ ghost use Rattle.line_model.specs.LinkStory.{IsNewLink};
 use bus_sim::{Refused, Script, SimBus};
 use hub_core::{CheckPlan, HubJob, JobPlan, LoadPlan, LogWhat};
 use knx_model::{Image, IndAddr, List, NoMemory, Octets};
-use line_model::{Gate, Open, Report};
+use line_fixed::FixedWatcher;
+use line_model::{Gate, JobProgress, Open, Report};
 use shared_hub::commission;
 use std::alloc::Global;
 use std::process::Abort;
@@ -113,6 +114,30 @@ impl Gate for HoldsTheFirst {
     }
 }
 
+/// Whether the watcher was told each entry of the log, in order and once.
+fn told_all(watcher: &FixedWatcher, report: &Report) -> bool {
+    let told = watcher.entries().iter();
+    let log = report.log.as_slice();
+    watcher.entries().len() == log.len()
+        && told.zip(log).all(|(place, entry)| place.at == entry.at && place.worker == entry.worker)
+}
+
+/// Whether of each job each report comes a second after the one before it, and none tells more operations than all.
+fn is_paced(reports: &[JobProgress]) -> bool {
+    reports.iter().enumerate().all(|(i, report)| {
+        let before = reports
+            .iter()
+            .take(i)
+            .filter(|before| before.job == report.job)
+            .last();
+        report.done <= report.all
+            && before.map_or(
+                true,
+                |before| before.now.saturating_add(1_000) <= report.now,
+            )
+    })
+}
+
 fn run<R: Abort + Threads + Wait + Sync, G: Gate + Sync>(
     rt: &R,
     alloc: Global,
@@ -123,7 +148,19 @@ fn run<R: Abort + Threads + Wait + Sync, G: Gate + Sync>(
     assert!(rt; jobs.len() < 100);
     assert!(rt; workers >= 1 && workers <= 8);
     let line = blank_line(alloc)?;
-    let (_line, report) = commission(rt, alloc, jobs, List::new(alloc), line, workers, gate);
+    let watcher = FixedWatcher::new(alloc);
+    let (_line, report, watcher) = commission(
+        rt,
+        alloc,
+        jobs,
+        List::new(alloc),
+        line,
+        workers,
+        gate,
+        watcher,
+    );
+    assert!(rt; told_all(&watcher, &report));
+    assert!(rt; is_paced(watcher.reports()));
     Ok(report)
 }
 

@@ -4,8 +4,8 @@ use crate::fault::Fault;
 use crate::outside::{Outside, put_back};
 use crate::text::TextFile;
 use knx_model::{MemoryFile, MemoryFiles, MemorySink, NoMemory};
-use knx_top::{SimBus, knx};
-use line_fixed::FixedDialer;
+use knx_top::{AddressBus, SimBus, knx};
+use line_fixed::{FixedDialer, FixedWatcher};
 use line_model::Open;
 use std::alloc::Global;
 use std::sync::Wait;
@@ -58,9 +58,21 @@ fn status_of<R: Threads + Wait + Sync>(
     dial: &mut FixedDialer,
 ) -> u8 {
     let mut sim = SimBus::empty(alloc);
+    let mut nobody: Option<FixedWatcher> = None;
+    let mut units = AddressBus::empty(alloc);
     let mut last = None;
     knx(
-        rt, alloc, words, files, sink, &mut sim, dial, &Open, &mut last,
+        rt,
+        alloc,
+        words,
+        files,
+        sink,
+        &mut sim,
+        &mut units,
+        dial,
+        &Open,
+        &mut nobody,
+        &mut last,
     )
     .number()
 }

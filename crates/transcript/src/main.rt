@@ -18,6 +18,8 @@
 mod call;
 mod fault;
 #[cfg(test)]
+mod line;
+#[cfg(test)]
 mod many;
 mod outside;
 mod text;

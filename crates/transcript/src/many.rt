@@ -2,8 +2,8 @@
 
 use knx_gen::{GroupNames, project_from};
 use knx_model::{MemoryFile, MemoryFiles, MemorySink, NoMemory};
-use knx_top::{Report, SimBus, Status, knx};
-use line_fixed::FixedDialer;
+use knx_top::{AddressBus, Report, SimBus, Status, knx};
+use line_fixed::{FixedDialer, FixedWatcher};
 use line_model::{LogWhat, Open};
 use project_text::print_project;
 use std::alloc::Global;
@@ -73,10 +73,22 @@ fn run_of<R: Threads + Wait + Sync>(
 ) -> (Status, Option<Report>) {
     let mut sink = MemorySink::new(alloc);
     let mut sim = SimBus::empty(alloc);
+    let mut units = AddressBus::empty(alloc);
     let mut dial = FixedDialer::new(None, None);
+    let mut nobody: Option<FixedWatcher> = None;
     let mut last = None;
     let status = knx(
-        rt, alloc, words, files, &mut sink, &mut sim, &mut dial, &Open, &mut last,
+        rt,
+        alloc,
+        words,
+        files,
+        &mut sink,
+        &mut sim,
+        &mut units,
+        &mut dial,
+        &Open,
+        &mut nobody,
+        &mut last,
     );
     (status, last)
 }

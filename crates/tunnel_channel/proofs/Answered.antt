@@ -12,7 +12,7 @@ use Rattle.line_model.specs.Record.{Got, Entry, entry}
 use Rattle.line_model.specs.LinkStory.{newest_time}
 use Rattle.line_model.specs.ChannelLost.{answer_wait, acknowledged, confirmed, is_unconfirmed}
 use Rattle.line_model.specs.ClientView as seen
-use Rattle.line_model.specs.ClientView.{ClientChannel, channel, after_entry, deed}
+use Rattle.line_model.specs.ClientView.{ClientChannel, channel, after_entry, traffic}
 use Rattle.line_model.specs.Dropped.{drops_sought}
 use Rattle.line_model.specs.ClientEnd.{OpenEnd, ClientEnd, Idle, Seeking, Open, Leaving, JustLost, is_over}
 use Rattle.line_model.specs.ClientFrames.{seeking_took, channel_took, after_took, HasTunnelIfUp}
@@ -154,12 +154,12 @@ other_seen since x (TunnellingAck ch number status) o = refl
 
 late_got : (r : List Entry) (octets : List ℕ) (frame : IpFrame) (now since : ℕ) → channel r ≡ seen.Sought since → has_passed answer_wait since now ≡ true → datagram_in octets ≡ Some frame
     → NothingGot r octets now × (channel (entry (Got octets) now ∷ r) ≡ seen.Unanswered)
-unfolding after_entry deed
+unfolding after_entry traffic
 late_got r octets frame now since at q is = (record { did = rw at refl; owes = rw at refl; drops = rw (at, is) (late_drops since now frame q) }, rw (at, q) refl)
 
 other_got : (r : List Entry) (octets : List ℕ) (frame : IpFrame) (now since : ℕ) → channel r ≡ seen.Sought since → has_passed answer_wait since now ≡ false → datagram_in octets ≡ Some frame → IsOther frame
     → NothingGot r octets now × (channel (entry (Got octets) now ∷ r) ≡ seen.Sought since)
-unfolding after_entry deed
+unfolding after_entry traffic
 other_got r octets frame now since at q is o =
     (record { did = rw at refl; owes = rw at refl; drops = rw (at, is) (other_drops since now frame o) }, rw (at, q, is) (other_seen since (entry (Got octets) now) frame o))
 
@@ -178,7 +178,7 @@ module _ (r : List Entry) (octets : List ℕ) (now since : ℕ) (at : channel r 
 
   opened : (ch status : ℕ) (tunnel : IndAddr) → datagram_in octets ≡ Some (ConnectResponse ch status (Some tunnel)) → has_passed answer_wait since now ≡ false → (status == 0) ≡ true
       → Answers (Seeking since) (ConnectResponse ch status (Some tunnel)) now octets r (channel_took (Seeking since) (ConnectResponse ch status (Some tunnel)) now)
-  unfolding channel_took after_took after_entry deed
+  unfolding channel_took after_took after_entry traffic
   opened ch status tunnel is q z = rw q (record {
     fits = rw (at, q, is, z) (inl (record { c = ch; l = entry (Got octets) now ∷ []; is = refl; knows = record { begun = tt; is = rw is refl; sendings = rw is tt; heartbeats = rw is tt; asked = refl } }));
     changes = λ o. rw (at, q, is, z) refl;
@@ -196,7 +196,7 @@ module _ (r : List Entry) (octets : List ℕ) (now since : ℕ) (at : channel r 
 
   refused : (ch status : ℕ) → datagram_in octets ≡ Some (ConnectResponse ch status None) → has_passed answer_wait since now ≡ false → (status == 0) ≡ false
       → Answers (Seeking since) (ConnectResponse ch status None) now octets r (channel_took (Seeking since) (ConnectResponse ch status None) now)
-  unfolding channel_took after_took after_entry deed
+  unfolding channel_took after_took after_entry traffic
   refused ch status is q z = rw q (record {
     fits = rw (at, q, is, z) tt;
     changes = λ o. rw (at, q, is, z) refl;

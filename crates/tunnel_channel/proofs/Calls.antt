@@ -80,6 +80,7 @@ known_puts left c l r now cemi octets i at k h =
       right = renews_other r octets (TunnellingRequest c (own c l).number cemi) now read refl;
       unacknowledged = rw (opened_put r octets now c l at) (rw (read, same_number c, free) refl);
       unconfirmed = rw (opened_put r octets now c l at) (rw (read, same_number c, free) refl);
+      frame = rw (opened_put r octets now c l at) (rw (read, same_number c, free) refl);
     }
 
 up_puts : (left : Bool) (e : OpenEnd) (r : List Entry) (now : ℕ) (cemi octets : List ℕ) → IsCemi cemi → KnowsOpen e left (channel r) ⊎ IsBehind e (newest_time r) (channel r) → newest_time r ≤ now → is_over (Open e) now ≡ false

@@ -9,7 +9,7 @@ use Rattle.knx_model.specs.Connection.{has_passed}
 use Rattle.line_model.specs.Gateway.{acknowledgement_wait}
 use Rattle.line_model.specs.Reading.{datagram_in, is_connect_request, request_in, ack_in, state_response_in}
 use Rattle.line_model.specs.Record.{Item, Put, Renewed, Got, Quiet, Entry, entry, is_poll}
-use Rattle.line_model.specs.ChannelLost.{answer_wait, confirmation_wait, expected, own, acknowledged, confirmed, beats, acknowledges, confirms, answers_beat, is_request, is_new_request, is_beat, is_given_up, is_unconfirmed, is_dead, has_lapsed, is_lost}
+use Rattle.line_model.specs.ChannelLost.{answer_wait, confirmation_wait, expected, own, acknowledged, confirmed, last_frame, beats, acknowledges, confirms, answers_beat, is_request, is_new_request, is_beat, is_given_up, is_unconfirmed, is_dead, has_lapsed, is_lost}
 use Rattle.line_model.specs.ClientView as seen
 use Rattle.line_model.specs.ClientView.{ClientChannel, channel, after_entry, answered, sought_got}
 use Rattle.tunnel_channel.specs.Follows.{IsCurrent, PollsAreCurrent, SendingsStayCurrent}
@@ -51,7 +51,7 @@ module _ (c : ℕ) (l : List Entry) (octets : List ℕ) (now : ℕ) where
   confirmed_not None = refl
   confirmed_not (Some since) = refl
 
-  got_confirmed : (t f : Bool) (b : Bool) → acknowledges c (own c l) (ack_in (datagram_in octets)) ≡ t → confirms c (expected c l) (request_in (datagram_in octets)) ≡ f → confirmed c l ≡ b
+  got_confirmed : (t f : Bool) (b : Bool) → acknowledges c (own c l) (ack_in (datagram_in octets)) ≡ t → confirms c (expected c l) (last_frame c l) (request_in (datagram_in octets)) ≡ f → confirmed c l ≡ b
       → is_unconfirmed (acknowledged c l) (confirmed c l) now ≡ false → is_unconfirmed (acknowledged c (entry (Got octets) now ∷ l)) (confirmed c (entry (Got octets) now ∷ l)) now ≡ false
   got_confirmed true true b q f s h = rw (q, f) refl
   got_confirmed true false true q f s h = rw (q, f, s) refl

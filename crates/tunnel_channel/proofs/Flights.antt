@@ -12,7 +12,7 @@ use Rattle.line_model.specs.ChannelLost.{expected, own, acknowledged, confirmed,
 use Rattle.line_model.specs.ClientView as seen
 use Rattle.line_model.specs.ClientView.{ClientChannel}
 use Rattle.line_model.specs.Sendings.{last_request}
-use Rattle.tunnel_channel.specs.Fits.{end_of, Knows, acknowledged_in, confirmed_in}
+use Rattle.tunnel_channel.specs.Fits.{end_of, Knows, acknowledged_in, confirmed_in, last_in}
 use Rattle.tunnel_channel.specs.Follows.{acknowledged_by, confirmed_by}
 use Rattle.tunnel_channel.proofs.Times.{same_awaited, same_free}
 use Rattle.tunnel_channel.proofs.Readings.{readings}
@@ -22,7 +22,7 @@ use Rattle.tunnel_channel.proofs.Rows.{told_up}
 -- of an open channel's request, before a frame and after it
 pub record Flies (after : ClientChannel) (told : ChannelTook) (now : ℕ) (before : ClientChannel) : Type 0 where
   pub acked : acknowledged_in after ≡ acknowledged_by told now (acknowledged_in before)
-  pub confirms : confirmed_in after ≡ confirmed_by told (confirmed_in before)
+  pub confirms : confirmed_in after ≡ confirmed_by told (last_in before) (confirmed_in before)
 
 module _ (left : Bool) (c : ℕ) (l : List Entry) (octets : List ℕ) (now : ℕ) (k : Knows (end_of c l) left c l) where
   abbrev FliesAt : IpFrame → Type 0

@@ -7,7 +7,7 @@ use Rattle.line_model.specs.Reading.{datagram_in, request_in}
 use Rattle.line_model.specs.Record.{Got, Entry, entry}
 use Rattle.line_model.specs.ChannelLost.{expected, has_left, delivers, answers_beat, has_lapsed, is_ended_by, is_lost}
 use Rattle.line_model.specs.ClientView as seen
-use Rattle.line_model.specs.ClientView.{channel, Deed, Takes, Loses, deed_of, after_entry, deed}
+use Rattle.line_model.specs.ClientView.{channel, Deed, Takes, Loses, deed_of, after_entry, traffic}
 use Rattle.line_model.specs.Dropped.{is_dropped, drops_in}
 use Rattle.line_model.specs.Renews.{calls_for, owed}
 use Rattle.tunnel_channel.proofs.Readings.{Readings, readings}
@@ -51,13 +51,13 @@ lost_got c l octets frame now lapsed is = rw (lapsed, is) (same_ended c l now fr
 
 pub record OpenGot (r : List Entry) (octets : List ℕ) (frame : IpFrame) (now c : ℕ) (l : List Entry) (ends : Bool) : Type 0 where
   pub after : channel (entry (Got octets) now ∷ r) ≡ cond ends (seen.Lost c) (seen.Open c (entry (Got octets) now ∷ l))
-  pub did : deed (channel r) (entry (Got octets) now) ≡ cond ends Loses (deed_of Takes (delivers c (expected c l) (request_in (Some frame))) (request_in (Some frame)))
+  pub did : traffic (channel r) (entry (Got octets) now) ≡ cond ends Loses (deed_of Takes (delivers c (expected c l) (request_in (Some frame))) (request_in (Some frame)))
   pub owes : owed (entry (Got octets) now ∷ r) ≡ cond ends None (calls_for c l (request_in (Some frame)))
   pub drops : is_dropped r (entry (Got octets) now) ≡ drops_in c l now frame
 
 open_got_by : (r : List Entry) (octets : List ℕ) (frame : IpFrame) (now c : ℕ) (l : List Entry) → channel r ≡ seen.Open c l → has_lapsed c l now ≡ false → datagram_in octets ≡ Some frame
     → (ends : Bool) → is_lost c l (entry (Got octets) now) ≡ ends → OpenGot r octets frame now c l ends
-unfolding after_entry deed
+unfolding after_entry traffic
 open_got_by r octets frame now c l up lapsed is true q = record {
   after = rw (up, q) refl;
   did = rw (up, q) refl;

@@ -10,12 +10,12 @@ use Rattle.line_model.specs.Reading.{datagram_in, disconnect_request_in}
 use Rattle.line_model.specs.Record.{Put, Got, Entry, entry}
 use Rattle.line_model.specs.ChannelLost.{own, acknowledged, confirmed, beats, is_unconfirmed, has_lapsed}
 use Rattle.line_model.specs.ClientView as seen
-use Rattle.line_model.specs.ClientView.{ClientChannel, channel, Deed, Nothing, Loses, after_entry, deed}
+use Rattle.line_model.specs.ClientView.{ClientChannel, channel, Deed, Nothing, Loses, after_entry, traffic, deed}
 use Rattle.line_model.specs.Dropped.{is_dropped}
 use Rattle.line_model.specs.Renews.{RenewsSo, IsOwed, owed}
 use Rattle.line_model.specs.Sendings.{last_request}
 use Rattle.line_model.specs.ClientEnd.{OpenEnd, ClientEnd, Open, is_over, is_given_up, is_dead}
-use Rattle.tunnel_channel.specs.Fits.{end_of, outstanding_of, Knows, HasNone, FitsChannel, Fits, acknowledged_in, confirmed_in}
+use Rattle.tunnel_channel.specs.Fits.{end_of, outstanding_of, Knows, HasNone, FitsChannel, Fits, acknowledged_in, confirmed_in, last_in}
 use Rattle.tunnel_channel.specs.Follows.{Sends, TakesFrame, answer_in, taken_in, acknowledged_by, confirmed_by, Ends, Stays, change}
 use Rattle.tunnel_channel.proofs.Frames.{ack_read, left_read}
 use Rattle.tunnel_channel.proofs.Times.{same_given_up, same_dead}
@@ -112,13 +112,13 @@ module _ (after : ClientEnd) (told : ChannelTook) (r : List Entry) (octets : Lis
     no_deed = λ answer h. (replied ends g is w answer h).none;
     asks_not = λ answer h. (replied ends g is w answer h).asks;
     acked = λ o. ap acknowledged_in g.after ∙ f.acked ∙ sym (ap (λ (ch : ClientChannel). acknowledged_by told now (acknowledged_in ch)) at);
-    confirms = λ o. ap confirmed_in g.after ∙ f.confirms ∙ sym (ap (λ (ch : ClientChannel). confirmed_by told (confirmed_in ch)) at);
+    confirms = λ o. ap confirmed_in g.after ∙ f.confirms ∙ sym (ap (λ (ch : ClientChannel). confirmed_by told (last_in ch) (confirmed_in ch)) at);
   }
 
 -- ---- a frame that is dropped since the time has ended the channel, or since there is none
 
 pub record NothingGot (r : List Entry) (octets : List ℕ) (now : ℕ) : Type 0 where
-  pub did : taken_in (deed (channel r) (entry (Got octets) now)) ≡ None
+  pub did : taken_in (traffic (channel r) (entry (Got octets) now)) ≡ None
   pub owes : owed (entry (Got octets) now ∷ r) ≡ None
   pub drops : is_dropped r (entry (Got octets) now) ≡ true
 
@@ -147,14 +147,14 @@ unheard end r octets now over same n fits = record {
 -- in an open channel that has lapsed
 pub lapsed_got : (r : List Entry) (octets : List ℕ) (frame : IpFrame) (now c : ℕ) (l : List Entry) → channel r ≡ seen.Open c l → has_lapsed c l now ≡ true → datagram_in octets ≡ Some frame
     → NothingGot r octets now × (channel (entry (Got octets) now ∷ r) ≡ seen.Lost c)
-unfolding after_entry deed
+unfolding after_entry traffic
 lapsed_got r octets frame now c l up lapsed is =
     (record { did = rw (up, lapsed) refl; owes = rw (up, lapsed) refl; drops = rw (up, is, lapsed) refl }, rw (up, lapsed) refl)
 
 -- where there is no channel and none is sought
 pub none_got_by : (ch : ClientChannel) (r : List Entry) (octets : List ℕ) (frame : IpFrame) (now : ℕ) → HasNone ch → channel r ≡ ch → datagram_in octets ≡ Some frame
     → NothingGot r octets now × (channel (entry (Got octets) now ∷ r) ≡ ch)
-unfolding after_entry deed
+unfolding after_entry traffic
 none_got_by seen.Fresh r octets frame now n q is = (record { did = rw q refl; owes = rw q refl; drops = rw (q, is) refl }, rw q refl)
 none_got_by (seen.Sought since) r octets frame now n q is = absurd n
 none_got_by (seen.RefusedBy status) r octets frame now n q is = (record { did = rw q refl; owes = rw q refl; drops = rw (q, is) refl }, rw q refl)

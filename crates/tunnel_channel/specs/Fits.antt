@@ -2,13 +2,14 @@
 -- channel's connect response on. Where the time alone has ended the channel, or the wait for one, the end is told so by `expire` only: until
 -- then it is behind the record.
 use Rattle.std.specs.Prelude.{◌≡◌, ℕ, ◌⊎◌, Bool, true, false, List, [], ◌∷◌, length, Option, Some, None}
+use Rattle.knx_model.specs.declared.frames.cemi.Ldata.{Ldata}
 use Rattle.knx_model.specs.declared.frames.ip.IpFrame.TheVariants.{TunnellingRequest}
 use Rattle.knx_model.specs.Connection.{has_passed}
 use Rattle.line_model.specs.Reading.{datagram_in}
 use Rattle.line_model.specs.Gateway.{acknowledgement_wait}
 use Rattle.line_model.specs.Record.{Entry}
 use Rattle.line_model.specs.LinkStory.{newest_time}
-use Rattle.line_model.specs.ChannelLost.{answer_wait, expected, own, acknowledged, confirmed, beats, has_left}
+use Rattle.line_model.specs.ChannelLost.{answer_wait, expected, own, acknowledged, confirmed, last_frame, beats, has_left}
 use Rattle.line_model.specs.ClientView as seen
 use Rattle.line_model.specs.ClientView.{ClientChannel, channel}
 use Rattle.line_model.specs.Renews.{last_beat}
@@ -118,3 +119,8 @@ acknowledged_in _ = None
 abbrev pub confirmed_in : ClientChannel → Bool
 confirmed_in (seen.Open c l) = confirmed c l
 confirmed_in _ = true
+
+-- its frame
+abbrev pub last_in : ClientChannel → Option Ldata
+last_in (seen.Open c l) = last_frame c l
+last_in _ = None

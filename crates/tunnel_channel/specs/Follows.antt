@@ -2,6 +2,7 @@
 -- the record with the entry that the call brings, and what it gives to be sent is a datagram that the client may send. No link is named: it
 -- holds of every record. The times of the record aren't greater than that of the call.
 use Rattle.std.specs.Prelude.{◌≡◌, ◌≢◌, ℕ, ◌≤◌, Bool, true, false, not, ◌&&◌, ◌||◌, is_none, is_some, List, [], ◌∷◌, option_map, if◌then◌else◌, Option, Some, None}
+use Rattle.knx_model.specs.declared.frames.cemi.Ldata.{Ldata}
 use Rattle.knx_model.specs.declared.frames.ip.IpFrame.{IpFrame}
 use Rattle.knx_model.specs.declared.frames.ip.IpFrame.TheVariants.{ConnectRequest}
 use Rattle.knx_model.specs.KnxNetIp.{Written}
@@ -13,15 +14,15 @@ use Rattle.line_model.specs.declared.client_end.ChannelExpired.TheVariants as du
 use Rattle.line_model.specs.Reading.{datagram_in, ldata_in, disconnect_request_in}
 use Rattle.line_model.specs.Record.{Item, Put, Renewed, Got, Entry, entry, got_in, is_poll}
 use Rattle.line_model.specs.LinkStory.{newest_time}
-use Rattle.line_model.specs.ChannelLost.{answer_wait, own, acknowledged, confirmed, is_confirmation, beats, is_given_up, is_unconfirmed, is_dead, has_lapsed}
+use Rattle.line_model.specs.ChannelLost.{answer_wait, own, acknowledged, confirmed, is_confirmation_of, beats, is_given_up, is_unconfirmed, is_dead, has_lapsed}
 use Rattle.line_model.specs.ClientView as seen
-use Rattle.line_model.specs.ClientView.{ClientChannel, channel, Deed, Puts, Takes, Loses, Nothing, deed}
+use Rattle.line_model.specs.ClientView.{ClientChannel, channel, Deed, Puts, Takes, Loses, Nothing, traffic, deed}
 use Rattle.line_model.specs.Dropped.{is_dropped}
 use Rattle.line_model.specs.Renews.{RenewsSo, MayLeave, IsOwed, owed, is_just_renewed, is_repeat_due, is_beat_due, is_left}
 use Rattle.line_model.specs.Sendings.{IsRightItem}
 use Rattle.line_model.specs.ClientEnd.{ClientEnd, Idle, Seeking, Open, Leaving, JustLost, open_end, is_over, channel_put, after_put, channel_expired, after_expired, channel_left, after_leave, lost}
 use Rattle.line_model.specs.ClientFrames.{channel_took, after_took}
-use Rattle.tunnel_channel.specs.Fits.{Fits, acknowledged_in, confirmed_in}
+use Rattle.tunnel_channel.specs.Fits.{Fits, acknowledged_in, confirmed_in, last_in}
 
 -- the datagram is one that the client may send, and the end then knows what the record says
 pub record Sends (after : ClientEnd) (octets : List ℕ) (now : ℕ) (r : List Entry) : Type 0 where
@@ -51,6 +52,7 @@ pub record PutsRequest (end : ClientEnd) (cemi octets : List ℕ) (now : ℕ) (r
   pub right : RenewsSo r (entry (Put octets) now)
   pub unacknowledged : acknowledged_in (channel (entry (Put octets) now ∷ r)) ≡ None
   pub unconfirmed : confirmed_in (channel (entry (Put octets) now ∷ r)) ≡ false
+  pub frame : last_in (channel (entry (Put octets) now ∷ r)) ≡ ldata_in cemi
 
 abbrev pub PutFollows : ClientEnd → List ℕ → ℕ → Type 0
 PutFollows end cemi now = (r : List Entry) (octets : List ℕ) → Fits end r → newest_time r ≤ now → is_over end now ≡ false → channel_put end cemi ≡ Some octets → PutsRequest end cemi octets now r
@@ -107,7 +109,7 @@ change_told (took.RefusedBy status) = Refuses status
 change_told (took.Gone answer) = Ends
 change_told _ = Stays
 
--- what came of the request put last: its acknowledgement is told so, and its confirmation is given
+-- what came of the request put last: its acknowledgement is told so, and its confirmation, by its frame, is given
 abbrev pub acknowledged_by : ChannelTook → ℕ → Option ℕ → Option ℕ
 acknowledged_by took.Dropped now before = before
 acknowledged_by (took.Up tunnel) now before = None
@@ -118,22 +120,22 @@ acknowledged_by (took.Again ack) now before = before
 acknowledged_by (took.Gone answer) now before = None
 acknowledged_by took.Alive now before = before
 
-abbrev pub confirmed_by : ChannelTook → Bool → Bool
-confirmed_by took.Dropped before = before
-confirmed_by (took.Up tunnel) before = true
-confirmed_by (took.RefusedBy status) before = before
-confirmed_by took.Acked before = before
-confirmed_by (took.Cemi octets ack) before = if is_confirmation (ldata_in octets) then true else before
-confirmed_by (took.Again ack) before = before
-confirmed_by (took.Gone answer) before = true
-confirmed_by took.Alive before = before
+abbrev pub confirmed_by : ChannelTook → Option Ldata → Bool → Bool
+confirmed_by took.Dropped last before = before
+confirmed_by (took.Up tunnel) last before = true
+confirmed_by (took.RefusedBy status) last before = before
+confirmed_by took.Acked last before = before
+confirmed_by (took.Cemi octets ack) last before = if is_confirmation_of last (ldata_in octets) then true else before
+confirmed_by (took.Again ack) last before = before
+confirmed_by (took.Gone answer) last before = true
+confirmed_by took.Alive last before = before
 
 -- where the time hasn't ended the channel or the wait for one, the answer tells what changed
 pub record TakesFrame (after : ClientEnd) (told : ChannelTook) (over : Bool) (octets : List ℕ) (now : ℕ) (r : List Entry) : Type 0 where
   pub fits : Fits after (entry (Got octets) now ∷ r)
   pub changes : over ≡ false → change (channel r) (channel (entry (Got octets) now ∷ r)) ≡ change_told told
   pub drops : is_dropped r (entry (Got octets) now) ≡ is_told_dropped told
-  pub gives : taken_in (deed (channel r) (entry (Got octets) now)) ≡ cemi_in told
+  pub gives : taken_in (traffic (channel r) (entry (Got octets) now)) ≡ cemi_in told
   pub acknowledges : option_map Written (owed (entry (Got octets) now ∷ r)) ≡ acknowledgement_in told
   pub answers : (answer : List ℕ) → answer_in told ≡ Some answer → Sends after answer now (entry (Got octets) now ∷ r)
   pub owes : (answer : List ℕ) → answer_in told ≡ Some answer → IsOwed (owed (entry (Got octets) now ∷ r)) (entry (Put answer) now)
@@ -141,7 +143,7 @@ pub record TakesFrame (after : ClientEnd) (told : ChannelTook) (over : Bool) (oc
   pub no_deed : (answer : List ℕ) → answer_in told ≡ Some answer → deed (channel (entry (Got octets) now ∷ r)) (entry (Put answer) now) ≡ Nothing
   pub asks_not : (answer : List ℕ) → answer_in told ≡ Some answer → disconnect_request_in (datagram_in answer) ≡ None
   pub acked : over ≡ false → acknowledged_in (channel (entry (Got octets) now ∷ r)) ≡ acknowledged_by told now (acknowledged_in (channel r))
-  pub confirms : over ≡ false → confirmed_in (channel (entry (Got octets) now ∷ r)) ≡ confirmed_by told (confirmed_in (channel r))
+  pub confirms : over ≡ false → confirmed_in (channel (entry (Got octets) now ∷ r)) ≡ confirmed_by told (last_in (channel r)) (confirmed_in (channel r))
 
 abbrev pub TakeFollows : ClientEnd → IpFrame → ℕ → Type 0
 TakeFollows end frame now =

@@ -10,7 +10,7 @@ use Rattle.line_model.specs.Network.{Sent}
 use Rattle.line_model.specs.Gateway.{Channel, number_of, next_number}
 use Rattle.line_model.specs.Record.{Entry, Put, Got, Quiet, entry}
 use Rattle.line_model.specs.ChannelLost.{expected, delivers, is_lost, answer_wait, own, is_none, is_request}
-use Rattle.line_model.specs.ClientView.{ClientChannel, Fresh, Sought, RefusedBy, Unanswered, Open, Lost, View, Deed, Puts, Takes, Loses, Nothing, and_takes, after_entry, deed, deed_of, or_takes, sought_got, or_number}
+use Rattle.line_model.specs.ClientView.{ClientChannel, Fresh, Sought, RefusedBy, Unanswered, Open, Lost, View, Deed, Puts, Takes, Loses, Nothing, and_takes, after_entry, traffic, deed_of, or_takes, sought_got, or_number}
 use Rattle.line_model.specs.Renews.{calls_for, owed_in}
 use Rattle.line_model.specs.ActedOnce.{Has}
 use Rattle.tunnel_law.proofs.Fits.{Book, book_after}
@@ -37,7 +37,7 @@ module _ (up : List Sent) (makers : List ℕ) (channel : Option Channel) (puts :
   put_takes false (Some request) takes = refl
 
   pub put_by : (v : View) (state : ClientChannel) (octets : List ℕ) (now : ℕ) → EndsOf (record { view = v; state = state }) → NextOf (record { view = v; state = state }) (entry (Put octets) now)
-  unfolding after_entry deed
+  unfolding after_entry traffic
   put_by v Fresh octets now n =
       let P : ClientChannel → Type 0 = λ c. Ends up makers channel puts e (or_number c v.number) v.takes c in
       let ends : P (fresh_after now (datagram_in octets)) = elim (ask_or (datagram_in octets)) [
@@ -57,7 +57,7 @@ module _ (up : List Sent) (makers : List ℕ) (channel : Option Channel) (puts :
   -- ---- a quiet wait
 
   pub quiet_by : (v : View) (state : ClientChannel) (now : ℕ) → EndsOf (record { view = v; state = state }) → NextOf (record { view = v; state = state }) (entry Quiet now)
-  unfolding after_entry deed
+  unfolding after_entry traffic
   quiet_by v Fresh now n = (n, tt)
   quiet_by v (Sought since) now n = (by_test (has_passed answer_wait since now), tt)
     where
@@ -145,7 +145,7 @@ module _ (up : List Sent) (makers : List ℕ) (channel : Option Channel) (puts :
     sought_by v since n (Some (TunnellingAck c m s)) is = n
 
     pub got_by : (v : View) (state : ClientChannel) → EndsOf (record { view = v; state = state }) → NextOf (record { view = v; state = state }) here
-    unfolding after_entry deed
+    unfolding after_entry traffic
     got_by v Fresh n = (n, tt)
     got_by v (Sought since) n = (by_test (has_passed answer_wait since now), tt)
       where

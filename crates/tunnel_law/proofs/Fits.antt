@@ -8,7 +8,7 @@ use Rattle.line_model.specs.Network.{Sent}
 use Rattle.line_model.specs.Gateway.{Channel, number_of}
 use Rattle.line_model.specs.Record.{Entry, Got, got_in, is_renewal}
 use Rattle.line_model.specs.ChannelLost.{own}
-use Rattle.line_model.specs.ClientView.{ClientChannel, Fresh, Sought, RefusedBy, Unanswered, Open, Lost, View, unused, after_entry, deed, view_after}
+use Rattle.line_model.specs.ClientView.{ClientChannel, Fresh, Sought, RefusedBy, Unanswered, Open, Lost, View, unused, after_entry, traffic, view_after}
 use Rattle.line_model.specs.Sendings.{last_request}
 use Rattle.line_model.specs.ActedOnce.{Has, in_channel, IsPrefix}
 use Rattle.tunnel_law.proofs.Inside.{CountedIn, Every}
@@ -23,7 +23,7 @@ abbrev pub new_book : Book
 new_book = record { view = unused; state = Fresh }
 
 abbrev pub book_after : Book → Entry → Book
-book_after b x = record { view = view_after b.view (after_entry b.state x) (deed b.state x); state = after_entry b.state x }
+book_after b x = record { view = view_after b.view (after_entry b.state x) (traffic b.state x); state = after_entry b.state x }
 
 abbrev pub head_after : List Book → Entry → List Book
 head_after [] x = []

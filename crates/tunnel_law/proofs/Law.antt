@@ -9,7 +9,7 @@ use Rattle.line_model.specs.Network.{Sent}
 use Rattle.line_model.specs.Gateway.{Gateway, number_of}
 use Rattle.line_model.specs.Tunnel.{Tunnel, TunnelEvent, Send, From, Renew, Up, UpRefused, Down, LoseUp, LoseDown, Carried, Heard, Repeat, Close, Pass, Elsewhere, fresh}
 use Rattle.line_model.specs.Record.{Item, Put, Entry, entry, noted, is_renewal, put_in, item_of}
-use Rattle.line_model.specs.ClientView.{ClientChannel, Fresh, View, unused, goes_on, after_entry, deed, channel, views, first_view_after, view_after}
+use Rattle.line_model.specs.ClientView.{ClientChannel, Fresh, View, unused, goes_on, after_entry, traffic, channel, views, first_view_after, view_after}
 use Rattle.line_model.specs.Reading.{is_connect_request}
 use Rattle.line_model.specs.Renews.{RenewsRightly, RenewsSo, is_just_renewed}
 use Rattle.line_model.specs.Sendings.{SendsRightly, IsRightFrame, IsRightRequest, OfOpen}
@@ -57,14 +57,14 @@ abbrev pub views_of : List Book → List View
 views_of [] = []
 views_of (b ∷ bs) = b.view ∷ views_of bs
 
-views_next : (bs : List Book) (c : ClientChannel) (x : Entry) → HeadIs bs c → first_view_after (views_of bs) (after_entry c x) (deed c x) ≡ views_of (head_after bs x)
+views_next : (bs : List Book) (c : ClientChannel) (x : Entry) → HeadIs bs c → first_view_after (views_of bs) (after_entry c x) (traffic c x) ≡ views_of (head_after bs x)
 views_next [] c x h = absurd h
-views_next (b ∷ rest) c x h = ap (λ z. view_after b.view (after_entry z x) (deed z x) ∷ views_of rest) (sym h)
+views_next (b ∷ rest) c x h = ap (λ z. view_after b.view (after_entry z x) (traffic z x) ∷ views_of rest) (sym h)
 
 views_by : (bs : List Book) (c : ClientChannel) (x : Entry) (vs : List View) → vs ≡ views_of bs → HeadIs bs c → (t : Bool)
-    → cond t (unused ∷ vs) (first_view_after vs (after_entry c x) (deed c x)) ≡ views_of (cond t (new_book ∷ bs) (head_after bs x))
+    → cond t (unused ∷ vs) (first_view_after vs (after_entry c x) (traffic c x)) ≡ views_of (cond t (new_book ∷ bs) (head_after bs x))
 views_by bs c x vs e h true = ap (λ z. unused ∷ z) e
-views_by bs c x vs e h false = ap (λ z. first_view_after z (after_entry c x) (deed c x)) e ∙ views_next bs c x h
+views_by bs c x vs e h false = ap (λ z. first_view_after z (after_entry c x) (traffic c x)) e ∙ views_next bs c x h
 
 pub views_are : (r : List Entry) → views r ≡ views_of (books r)
 views_are [] = refl

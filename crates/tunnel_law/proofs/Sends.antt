@@ -8,7 +8,7 @@ use Rattle.line_model.specs.Network.{Sent, new_datagram}
 use Rattle.line_model.specs.Gateway.{number_of}
 use Rattle.line_model.specs.Record.{Entry, Put, entry}
 use Rattle.line_model.specs.ChannelLost.{own, is_none, is_request}
-use Rattle.line_model.specs.ClientView.{ClientChannel, Fresh, Sought, RefusedBy, Unanswered, Open, Lost, View, Deed, Puts, Nothing, after_entry, deed, deed_of, or_takes, and_puts, or_number}
+use Rattle.line_model.specs.ClientView.{ClientChannel, Fresh, Sought, RefusedBy, Unanswered, Open, Lost, View, Deed, Puts, Nothing, after_entry, traffic, deed_of, or_takes, and_puts, or_number}
 use Rattle.line_model.specs.Sendings.{last_request, IsRightRequest, OfOpen}
 use Rattle.tunnel_law.proofs.Fits.{Book, book_after, BookIs, IsAsk, IsTell, IsUp, Phase, Named, Kept, content_in, last_put}
 use Rattle.tunnel_law.proofs.Client.{other_fits, ask_fits, tell_fits}
@@ -148,7 +148,7 @@ module _ (up : List Sent) (makers : List ℕ) (acted : List (ℕ × List ℕ)) (
 
   send_by : (v : View) (state : ClientChannel) → BookIs up makers acted e (record { view = v; state = state }) → MaySend (entry (Put octets) now) state (datagram_in octets)
       → BookIs (new_datagram octets e made ∷ up) makers acted e (book_after (record { view = v; state = state }) (entry (Put octets) now))
-  unfolding after_entry deed
+  unfolding after_entry traffic
   send_by v Fresh k may =
       let non : IsTell (datagram_in octets) → ⊥ = no_tell Fresh may (λ c n h. h) in
       let P : ClientChannel → Type 0 = λ c. Kept (new_datagram octets e made ∷ up) makers acted e (or_number c v.number) v.puts (λ joined asked. Phase acted joined asked v.puts c) in

@@ -10,7 +10,7 @@ use Rattle.line_model.specs.Network.{Sent}
 use Rattle.line_model.specs.Gateway.{number_of, next_number}
 use Rattle.line_model.specs.Record.{Entry, Got, Quiet, entry}
 use Rattle.line_model.specs.ChannelLost.{Own, own, is_none, acknowledges, delivers, is_lost, answer_wait, expected}
-use Rattle.line_model.specs.ClientView.{ClientChannel, Fresh, Sought, RefusedBy, Unanswered, Open, Lost, View, Deed, Takes, Loses, Nothing, after_entry, deed, deed_of, and_puts, or_number, sought_got}
+use Rattle.line_model.specs.ClientView.{ClientChannel, Fresh, Sought, RefusedBy, Unanswered, Open, Lost, View, Deed, Takes, Loses, Nothing, after_entry, traffic, deed_of, and_puts, or_number, sought_got}
 use Rattle.line_model.specs.ActedOnce.{Has, in_channel}
 use Rattle.tunnel_law.proofs.Numbers as numbers
 use Rattle.tunnel_law.proofs.Inside.{inside_map, tail_length}
@@ -183,7 +183,7 @@ module _ (up : List Sent) (makers : List ℕ) (acted : List (ℕ × List ℕ)) (
 
   take_by : (v : View) (state : ClientChannel) → BookIs up makers acted e (record { view = v; state = state }) → ResponseIn makers e seen → (IsAck seen → Acked makers acted e d seen)
       → BookIs up makers acted e (book_after (record { view = v; state = state }) here)
-  unfolding after_entry deed
+  unfolding after_entry traffic
   take_by v Fresh k r a = k
   take_by v (Sought since) k r a = waits_by v since k r (has_passed answer_wait since now)
   take_by v (RefusedBy s) k r a = k
@@ -198,7 +198,7 @@ take_head up makers acted e d young octets now b k r a = take_by up makers acted
 -- a quiet wait
 quiet_by : (up : List Sent) (makers : List ℕ) (acted : List (ℕ × List ℕ)) (e now : ℕ) (v : View) (state : ClientChannel) → BookIs up makers acted e (record { view = v; state = state })
     → BookIs up makers acted e (book_after (record { view = v; state = state }) (entry Quiet now))
-unfolding after_entry deed
+unfolding after_entry traffic
 quiet_by up makers acted e now v Fresh k = k
 quiet_by up makers acted e now v (Sought since) k = by_test (has_passed answer_wait since now)
   where

@@ -1,19 +1,20 @@
 -- Which entries leave the open channel alone, and seek none.
 use Rattle.std.proofs.Common.{◌≡◌, inl, inr, ℕ, List, [], ◌∷◌, ◌++◌, Bool, true, false, Some, None, Result, Ok, Err, refl, sym, subst, ap, ◌∙◌, append_assoc}
-use Rattle.std.specs.Prelude.{is_some}
+use Rattle.std.specs.Prelude.{is_some, if◌then◌else◌}
 use Rattle.knx_model.specs.declared.frames.ip.IpFrame.TheVariants.{TunnellingRequest}
 use Rattle.knx_model.specs.KnxNetIp.{Written}
 use Rattle.line_model.specs.declared.fault.HubFault.{HubFault}
-use Rattle.line_model.specs.Reading.{datagram_in, is_connect_request, disconnect_request_in}
+use Rattle.line_model.specs.Reading.{datagram_in, ldata_in, is_connect_request, disconnect_request_in}
 use Rattle.line_model.specs.Record.{Item, Put, Renewed, Got, Quiet, Entry, entry, is_poll, is_renewal, Placed, entries}
 use Rattle.line_model.specs.LinkStory.{Story, places_in, newest_time, AreWaits}
 use Rattle.line_model.specs.ChannelLost as lose
 use Rattle.line_model.specs.ClientView as seen
-use Rattle.line_model.specs.ClientView.{ClientChannel, channel, after_entry, Deed, Loses, Nothing, deed}
+use Rattle.line_model.specs.ClientView.{ClientChannel, channel, after_entry, Deed, Loses, Nothing, as_counted, counts, deed}
 use Rattle.line_model.specs.Moments.{Moment}
 use Rattle.line_model.specs.Renews.{RenewsSo, has_renewed, is_just_renewed}
 use Rattle.line_model.specs.Closing.{is_open}
 use Rattle.line_model.specs.ClientEnd.{ClientEnd, Idle, Seeking, Open, Leaving, JustLost, OpenEnd, IsCemi, is_free, request_of, put_octets, channel_put}
+use Rattle.tunnel_channel.specs.Fits.{last_in}
 use Rattle.tunnel_channel.proofs.Frames.{request_read}
 use Rattle.tunnel_link.specs.declared.came.Loss.{Loss}
 use Rattle.tunnel_link.specs.declared.came.Loss.TheVariants as loss
@@ -28,6 +29,7 @@ use Rattle.tunnel_link.specs.Calls.{SendsSo}
 use Rattle.tunnel_link.proofs.Acting.{grows_then}
 use Rattle.tunnel_link.proofs.Entries.{renewed_is}
 use Rattle.tunnel_link.proofs.Partings.{IsEnding, ending}
+use Rattle.tunnel_link.proofs.PutLast.{deed_is}
 use Rattle.tunnel_link.proofs.Heard.{GotDeed, IsLost, IsTaken, IsNone, got_deed}
 use Rattle.tunnel_link.proofs.Places.{unmoved, sent_grows, sent_or_grows}
 
@@ -118,8 +120,12 @@ ended_lost ch after e = record { c = e.d; is = e.lost }
 
 lost_in_got : (ch : ClientChannel) (octets : List ℕ) (now : ℕ) → GotDeed ch (entry (Got octets) now) (after_entry ch (entry (Got octets) now)) → deed ch (entry (Got octets) now) ≡ Loses → IsLostNow (after_entry ch (entry (Got octets) now))
 lost_in_got ch octets now (IsLost d c) h = ended_lost ch (after_entry ch (entry (Got octets) now)) (ending ch (after_entry ch (entry (Got octets) now)) c)
-lost_in_got ch octets now (IsTaken o d c) h = absurd (let z : (seen.Takes o ≡ Loses) = sym d ∙ h in cc)
-lost_in_got ch octets now (IsNone d c) h = absurd (let z : (Nothing ≡ Loses) = sym d ∙ h in cc)
+lost_in_got ch octets now (IsTaken o d c) h = absurd (not_lost (counts (last_in ch) (ldata_in o)) (sym (deed_is ch (entry (Got octets) now) ∙ ap (as_counted (last_in ch)) d) ∙ h))
+  where
+    not_lost : (b : Bool) → ◌≡◌ {A = seen.Deed} (if b then seen.Takes o else Nothing) Loses → ⊥
+    not_lost true e = cc
+    not_lost false e = cc
+lost_in_got ch octets now (IsNone d c) h = absurd (let z : (Nothing ≡ Loses) = sym (deed_is ch (entry (Got octets) now) ∙ ap (as_counted (last_in ch)) d) ∙ h in cc)
 
 quiet_lost : (c : ℕ) (l : List Entry) (now : ℕ) (b : Bool) → lose.is_lost c l (entry Quiet now) ≡ b → deed (seen.Open c l) (entry Quiet now) ≡ Loses → IsLostNow (after_entry (seen.Open c l) (entry Quiet now))
 unfolding deed after_entry

@@ -8,7 +8,8 @@ use Rattle.line_model.specs.declared.client_end.ChannelTook.{ChannelTook}
 use Rattle.line_model.specs.declared.client_end.ChannelTook.TheVariants as took
 use Rattle.line_model.specs.declared.fault.HubFault.{HubFault}
 use Rattle.line_model.specs.declared.fault.HubFault.TheVariants.{NoMemory, LinkFailed, GatewayRefused, Flooded, WrongLine}
-use Rattle.line_model.specs.Reading.{datagram_in, ldata_in}
+use Rattle.line_model.specs.Reading.{datagram_in, ldata_in, is_con}
+use Rattle.line_model.specs.ChannelLost.{is_confirmation_of}
 use Rattle.line_model.specs.Record.{Item, Put, Renewed, Got, Quiet}
 use Rattle.line_model.specs.LinkStory.{Story}
 use Rattle.line_model.specs.ClientEnd.{lost, is_over, channel_expired}
@@ -18,7 +19,7 @@ use Rattle.tunnel_link.specs.declared.known.Known.{Known}
 use Rattle.tunnel_link.specs.declared.tries.Tries.{Tries}
 use Rattle.tunnel_link.specs.declared.tries.Tries.TheVariants.{Zero, One, Two, Three}
 use Rattle.tunnel_link.specs.Calls.{SendsSo, ConnectsSo, AnswersSo, ListensSo, after_item}
-use Rattle.tunnel_link.specs.Kept.{refused, left, is_unconfirmed_now, lapsed, after_expiry, with_due, with_heard, after_told, counted, with_channel_of, taken, dropped_as_unread, read_or_dropped, answers_heartbeat}
+use Rattle.tunnel_link.specs.Kept.{refused, left, is_unconfirmed_now, lapsed, after_expiry, with_due, confirmed_if, with_heard, after_told, counted, with_channel_of, taken, dropped_as_unread, read_or_dropped, answers_heartbeat}
 use Rattle.tunnel_link.specs.Rights.{IsOfLink, IsOfTries, IsOfTunnel}
 
 tries_of_tunnel : (fault : HubFault) → IsOfTries (Some fault) → IsOfTunnel fault
@@ -64,7 +65,8 @@ lapsed_of k now c =
 
 heard_of : (o : Option Ldata) (k : Known) → k.fault ≡ None → IsOfTries (with_heard o k).fault
 heard_of None k c = calm_of k c
-heard_of (Some frame) k c = either_of _ (record k { flight = record k.flight { confirmed = true } }) k (calm_of k c) (calm_of k c)
+heard_of (Some frame) k c =
+    either_of (is_con frame.code) (confirmed_if (is_confirmation_of k.put (Some frame)) k) k (either_of (is_confirmation_of k.put (Some frame)) (record k { flight = record k.flight { confirmed = true } }) k (calm_of k c) (calm_of k c)) (calm_of k c)
 
 told_of : (now : ℕ) (told : ChannelTook) (k : Known) → k.fault ≡ None → IsOfTries (after_told now told k).fault
 told_of now took.Dropped k c = calm_of k c

@@ -11,7 +11,7 @@ use Rattle.line_model.specs.declared.fault.Try.TheVariants as try
 use Rattle.line_model.specs.Reading.{datagram_in, RequestFrame, request_in}
 use Rattle.line_model.specs.Record.{Got, Entry, entry}
 use Rattle.line_model.specs.ClientView as seen
-use Rattle.line_model.specs.ClientView.{ClientChannel, channel, after_entry, answered, sought_got, Takes, Loses, Nothing, deed}
+use Rattle.line_model.specs.ClientView.{ClientChannel, channel, after_entry, answered, sought_got, Takes, Loses, Nothing, traffic, deed}
 use Rattle.line_model.specs.ChannelLost.{answer_wait, expected, delivers, is_lost}
 use Rattle.line_model.specs.Dropped.{is_dropped, dropped}
 use Rattle.line_model.specs.Faults.{tries_after, tunnel_told, opens, is_counted, datagrams_taken}
@@ -24,19 +24,19 @@ use Rattle.tunnel_link.specs.Rights.{FitsNow, at_most_64_bits}
 -- ---- what it did
 
 pub data GotDeed (ch : ClientChannel) (x : Entry) (after : ClientChannel) : Type 0 where
-  IsLost : deed ch x ≡ Loses → change ch after ≡ Ends → GotDeed ch x after
-  IsTaken : (octets : List ℕ) → deed ch x ≡ Takes octets → change ch after ≡ Stays → GotDeed ch x after
-  IsNone : deed ch x ≡ Nothing → change ch after ≢ Ends → GotDeed ch x after
+  IsLost : traffic ch x ≡ Loses → change ch after ≡ Ends → GotDeed ch x after
+  IsTaken : (octets : List ℕ) → traffic ch x ≡ Takes octets → change ch after ≡ Stays → GotDeed ch x after
+  IsNone : traffic ch x ≡ Nothing → change ch after ≢ Ends → GotDeed ch x after
 
 open_deed_by : (c : ℕ) (l : List Entry) (octets : List ℕ) (now : ℕ) (q : Option RequestFrame) → request_in (datagram_in octets) ≡ q → (t : Bool) → delivers c (expected c l) q ≡ t → is_lost c l (entry (Got octets) now) ≡ false
     → GotDeed (seen.Open c l) (entry (Got octets) now) (after_entry (seen.Open c l) (entry (Got octets) now))
-unfolding after_entry deed
+unfolding after_entry traffic
 open_deed_by c l octets now None q t n lost = IsNone (rw lost (rw q refl)) (λ h. absurd (let e : (change (seen.Open c l) (after_entry (seen.Open c l) (entry (Got octets) now)) ≡ Stays) = rw lost refl in cc))
 open_deed_by c l octets now (Some request) q true n lost = IsTaken request.cemi (rw lost (rw q (rw n refl))) (rw lost refl)
 open_deed_by c l octets now (Some request) q false n lost = IsNone (rw lost (rw q (rw n refl))) (λ h. absurd (let e : (change (seen.Open c l) (after_entry (seen.Open c l) (entry (Got octets) now)) ≡ Stays) = rw lost refl in cc))
 
 open_deed : (c : ℕ) (l : List Entry) (octets : List ℕ) (now : ℕ) (t : Bool) → is_lost c l (entry (Got octets) now) ≡ t → GotDeed (seen.Open c l) (entry (Got octets) now) (after_entry (seen.Open c l) (entry (Got octets) now))
-unfolding after_entry deed
+unfolding after_entry traffic
 open_deed c l octets now true lost = IsLost (rw lost refl) (rw lost refl)
 open_deed c l octets now false lost = open_deed_by c l octets now (request_in (datagram_in octets)) refl _ refl lost
 
@@ -49,7 +49,7 @@ sought_change since (seen.Open c l) h = absurd (cc)
 sought_change since (seen.Lost c) h = absurd (cc)
 
 pub got_deed : (ch : ClientChannel) (octets : List ℕ) (now : ℕ) → GotDeed ch (entry (Got octets) now) (after_entry ch (entry (Got octets) now))
-unfolding deed
+unfolding traffic
 got_deed seen.Fresh octets now = IsNone refl (λ h. absurd (cc))
 got_deed (seen.Sought since) octets now = IsNone refl (sought_change since _)
 got_deed (seen.RefusedBy status) octets now = IsNone refl (λ h. absurd (cc))

@@ -198,6 +198,7 @@ lapse_answers what k old added aside right (Unheard h a) =
           current = rw h.unanswered tt;
           acknowledged = rw h.unanswered h.acknowledged;
           confirmed = rw h.unanswered h.confirmed;
+          put = rw h.unanswered tt;
           failed = more_tries k.tries try.NoAnswer h.few ∙ sym h.failed;
           few = rw h.failed (still_few k.tries try.NoAnswer u);
           paid = h.paid;

@@ -26,6 +26,7 @@ pub mod PollKept
 pub mod PollParts
 pub mod Polls
 pub mod Prompting
+pub mod PutLast
 pub mod Prompts
 pub mod Quiet
 pub mod Results

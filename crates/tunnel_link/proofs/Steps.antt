@@ -1,12 +1,12 @@
 -- What is due, a request and the end of the channel: what this end gives to be sent may be sent, and where it gives nothing it stays as it was.
-use Rattle.std.proofs.Common.{◌≡◌, ℕ, List, Bool, true, false, Some, None, refl, sym, subst, ◌∙◌, arith}
+use Rattle.std.proofs.Common.{◌≡◌, ◌∷◌, ℕ, List, Bool, true, false, Some, None, refl, sym, subst, ◌∙◌, arith}
 use Rattle.std.specs.Prelude.{◌&&◌, is_some}
 use Rattle.knx_model.specs.declared.frames.ip.IpFrame.TheVariants.{DisconnectRequest}
 use Rattle.knx_model.specs.KnxNetIp.{Written}
 use Rattle.knx_model.specs.Connection.{has_passed}
 use Rattle.line_model.specs.declared.client_end.ChannelExpired.{ChannelExpired}
 use Rattle.line_model.specs.declared.client_end.ChannelExpired.TheVariants as due
-use Rattle.line_model.specs.Reading.{datagram_in}
+use Rattle.line_model.specs.Reading.{datagram_in, ldata_in}
 use Rattle.line_model.specs.Record.{Put, Entry, entry}
 use Rattle.line_model.specs.LinkStory.{newest_time}
 use Rattle.line_model.specs.ClientView as seen
@@ -26,6 +26,7 @@ use Rattle.tunnel_link.specs.declared.known.Known.{Known}
 use Rattle.tunnel_link.specs.Kept.{with_due, with_put, with_leave}
 use Rattle.tunnel_link.specs.Rights.{IsRight, FitsNow, FitsRecord}
 use Rattle.tunnel_link.proofs.Entries.{put_still}
+use Rattle.tunnel_link.proofs.PutLast.{put_of, sent_put}
 use Rattle.tunnel_link.proofs.MaySend.{fits_of, not_over, Sending, open_sent}
 use Rattle.tunnel_link.proofs.Partings.{put_parts}
 
@@ -101,7 +102,8 @@ module _ (k : Known) (r : List Entry) (f : FitsRecord k r) where
         may = s.may;
         renews = expires.right octets h;
         parts = put_parts r octets (newest_time r) f.parted (λ asks. rw o.is refl);
-        fits = λ u. open_sent k (with_due k (newest_time r)) r octets o.c o.l o.is f refl s.fits (record { acknowledged = f.acknowledged ∙ sym still.acked; confirmed = f.confirmed ∙ sym still.confirms });
+        fits = λ u. open_sent k (with_due k (newest_time r)) r octets o.c o.l o.is f refl s.fits
+            (record { acknowledged = f.acknowledged ∙ sym still.acked; confirmed = f.confirmed ∙ sym still.confirms; put = sent_put k.put (channel r) octets (newest_time r) none f.put });
         did = none;
       }
 
@@ -125,7 +127,7 @@ put_sends k r cemi octets f right i h =
       may = p.sends.may;
       renews = p.right;
       parts = put_parts r octets now f.parted (λ asks. rw o.is refl);
-      fits = λ u. open_sent k (with_put k cemi now) r octets o.c o.l o.is f refl p.sends.fits (record { acknowledged = rw h (sym p.unacknowledged); confirmed = rw h (sym p.unconfirmed) });
+      fits = λ u. open_sent k (with_put k cemi now) r octets o.c o.l o.is f refl p.sends.fits (record { acknowledged = rw h (sym p.unacknowledged); confirmed = rw h (sym p.unconfirmed); put = rw h (put_of (ldata_in cemi) (channel (entry (Put octets) now ∷ r)) p.frame) });
       did = p.deed;
     }
 
@@ -206,6 +208,7 @@ leave_sends k r octets f right h =
       may = s.may;
       renews = renews_other r octets (DisconnectRequest a.c) now (asks_read octets a) refl;
       parts = put_parts r octets now f.parted (λ asks. rw o.is refl);
-      fits = λ u. open_sent k (with_leave k) r octets o.c o.l o.is f refl s.fits (record { acknowledged = f.acknowledged ∙ sym still.acked; confirmed = f.confirmed ∙ sym still.confirms });
+      fits = λ u. open_sent k (with_leave k) r octets o.c o.l o.is f refl s.fits
+          (record { acknowledged = f.acknowledged ∙ sym still.acked; confirmed = f.confirmed ∙ sym still.confirms; put = sent_put k.put (channel r) octets now none f.put });
       did = none;
     }

@@ -28,6 +28,7 @@ use Rattle.tunnel_link.specs.Kept.{is_late, is_over_for}
 use Rattle.tunnel_link.specs.Rights.{FitsNow, FitsRecord, tries_of}
 use Rattle.tunnel_link.specs.Adds.{IsNothing, One, AllNothing, moments_on}
 use Rattle.tunnel_link.proofs.MaySend.{fits_of, same_late}
+use Rattle.tunnel_link.proofs.PutLast.{poll_put, unread_opens}
 use Rattle.tunnel_link.proofs.Partings.{undone_parted, lapsed_parting, still_parting, unheard_parted}
 use Rattle.tunnel_link.proofs.Seeks.{none_flies}
 use Rattle.tunnel_link.proofs.Quiet.{unread_owes, Rests, open_rests, sought_rests, none_rests, Ends, open_ends, sought_ends, lost_ends, unanswered_ends}
@@ -188,6 +189,7 @@ module _ (k : Known) (r : List Entry) (f : FitsRecord k r) (what : Item) (now : 
           current = polls_are_current r what now poll;
           acknowledged = f.acknowledged ∙ sym rests.still.acked;
           confirmed = f.confirmed ∙ sym rests.still.confirms;
+          put = poll_put k.put (channel r) what now poll (unread_opens (channel r) what now poll n) f.put;
           failed = f.failed ∙ sym (rests.failed (tries r));
           few = rw (rests.failed (tries r)) f.few;
           paid = unread_owes r (entry what now) n;

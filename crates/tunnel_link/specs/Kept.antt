@@ -14,7 +14,7 @@ use Rattle.line_model.specs.declared.fault.HubFault.TheVariants.{GatewayRefused}
 use Rattle.line_model.specs.declared.fault.Try.{Try}
 use Rattle.line_model.specs.declared.fault.Try.TheVariants as try
 use Rattle.line_model.specs.Reading.{datagram_in, ldata_in, is_con}
-use Rattle.line_model.specs.ChannelLost.{confirmation_wait, is_unconfirmed}
+use Rattle.line_model.specs.ChannelLost.{confirmation_wait, is_unconfirmed, is_confirmation_of}
 use Rattle.line_model.specs.ClientEnd.{ClientEnd, Seeking, open_end, is_over, channel_deadline, lost, channel_put, after_put, channel_expired, after_expired, channel_left, after_leave}
 use Rattle.line_model.specs.ClientFrames.{channel_took, after_took}
 use Rattle.tunnel_link.specs.declared.came.Answer.{Answer}
@@ -84,8 +84,16 @@ abbrev pub flight_after_put : Option (List ℕ) → Flight → Flight
 flight_after_put None flight = flight
 flight_after_put (Some octets) flight = one_in_flight
 
+abbrev pub frame_after_put : Option (List ℕ) → Option Ldata → Option Ldata → Option Ldata
+frame_after_put None frame before = before
+frame_after_put (Some octets) frame before = frame
+
 abbrev pub with_put : Known → List ℕ → ℕ → Known
-with_put k cemi now = record k { channel = after_put k.channel cemi now; flight = flight_after_put (channel_put k.channel cemi) k.flight }
+with_put k cemi now = record k {
+  channel = after_put k.channel cemi now;
+  flight = flight_after_put (channel_put k.channel cemi) k.flight;
+  put = frame_after_put (channel_put k.channel cemi) (ldata_in cemi) k.put;
+}
 
 abbrev pub with_due : Known → ℕ → Known
 with_due k now = record k { channel = after_expired k.channel now (channel_expired k.channel now) }
@@ -164,18 +172,21 @@ answers_heartbeat frame told = false
 abbrev pub counted : IpFrame → ChannelTook → Known → Known
 counted frame told k = if answers_heartbeat frame told then k else counts k
 
--- the frame of the link layer in the gateway's next request
+-- the frame of the link layer in the gateway's next request: a confirmation that isn't that of the request put last is for no one
+abbrev pub confirmed_if : Bool → Known → Known
+confirmed_if its_own k = if its_own then record k { flight = record k.flight { confirmed = true } } else k
+
 abbrev pub with_heard : Option Ldata → Known → Known
 with_heard None k = drops k
-with_heard (Some frame) k = if is_con frame.code then record k { flight = record k.flight { confirmed = true } } else k
+with_heard (Some frame) k = if is_con frame.code then confirmed_if (is_confirmation_of k.put (Some frame)) k else k
 
-abbrev pub what_heard : Option Ldata → What
-what_heard None = came.Dropped
-what_heard (Some frame) = came.Frame frame
+abbrev pub what_heard : Option Ldata → Option Ldata → What
+what_heard put None = came.Dropped
+what_heard put (Some frame) = if is_con frame.code then (if is_confirmation_of put (Some frame) then came.Frame frame else came.Tunnel) else came.Frame frame
 
 abbrev pub after_told : ℕ → ChannelTook → Known → Known
 after_told now took.Dropped k = drops k
-after_told now (took.Up tunnel) k = record k { tries = Zero; flight = none_in_flight }
+after_told now (took.Up tunnel) k = record k { tries = Zero; flight = none_in_flight; put = None }
 after_told now (took.RefusedBy status) k = tried (try.Status status) k
 after_told now took.Acked k = record k { flight = record k.flight { acknowledged = Some now } }
 after_told now (took.Cemi octets ack) k = with_heard (ldata_in octets) k
@@ -184,16 +195,16 @@ after_told now (took.Gone None) k = left k
 after_told now (took.Gone (Some answer)) k = record k { flight = none_in_flight }
 after_told now took.Alive k = k
 
-abbrev pub told_answer : ChannelTook → ClientEnd → Answer
-told_answer took.Dropped end = only came.Dropped
-told_answer (took.Up tunnel) end = only (came.Up tunnel)
-told_answer (took.RefusedBy status) end = only came.Tunnel
-told_answer took.Acked end = only came.Tunnel
-told_answer (took.Cemi octets ack) end = with_datagram (what_heard (ldata_in octets)) ack
-told_answer (took.Again ack) end = with_datagram came.Tunnel ack
-told_answer (took.Gone None) end = loss_answer came.Tunnel end
-told_answer (took.Gone (Some answer)) end = record { what = came.Tunnel; loss = Ended; sends = Some answer }
-told_answer took.Alive end = only came.Tunnel
+abbrev pub told_answer : ChannelTook → Option Ldata → ClientEnd → Answer
+told_answer took.Dropped put end = only came.Dropped
+told_answer (took.Up tunnel) put end = only (came.Up tunnel)
+told_answer (took.RefusedBy status) put end = only came.Tunnel
+told_answer took.Acked put end = only came.Tunnel
+told_answer (took.Cemi octets ack) put end = with_datagram (what_heard put (ldata_in octets)) ack
+told_answer (took.Again ack) put end = with_datagram came.Tunnel ack
+told_answer (took.Gone None) put end = loss_answer came.Tunnel end
+told_answer (took.Gone (Some answer)) put end = record { what = came.Tunnel; loss = Ended; sends = Some answer }
+told_answer took.Alive put end = only came.Tunnel
 
 abbrev pub with_channel_of : Known → IpFrame → ℕ → Known
 with_channel_of k frame now = record k { channel = after_took k.channel frame now (channel_took k.channel frame now) }
@@ -202,7 +213,7 @@ unfoldable pub taken : Known → IpFrame → ℕ → Known
 taken k frame now = after_told now (channel_took k.channel frame now) (counted frame (channel_took k.channel frame now) (with_channel_of k frame now))
 
 unfoldable pub take_answer : Known → IpFrame → ℕ → Answer
-take_answer k frame now = told_answer (channel_took k.channel frame now) (with_channel_of k frame now).channel
+take_answer k frame now = told_answer (channel_took k.channel frame now) k.put (with_channel_of k frame now).channel
 
 -- ---- a datagram: where the time has ended what it would act on, it is dropped
 

@@ -1,15 +1,16 @@
 //! What is got.
 
-ghost use Rattle.std.specs.Prelude.{◌≡◌};
+ghost use Rattle.std.specs.Prelude.{◌≡◌, true, Some};
 ghost use Rattle.line_model.specs.ClientFrames.{HasTunnelIfUp};
-ghost use Rattle.line_model.specs.Reading.{ldata_in};
+ghost use Rattle.line_model.specs.ChannelLost.{is_alike, is_confirmation_of};
+ghost use Rattle.line_model.specs.Reading.{ldata_in, is_con};
 ghost use Rattle.tunnel_link.specs.Kept.{after_got, got_answer, taken, take_answer, with_heard, what_heard, answers_heartbeat, drops, counts};
 
 use crate::came::{Answer, Loss, What};
 use crate::flight::Flight;
 use crate::known::Known;
 use crate::tries::Tries;
-use knx_model::{Datagram, IpFrame, LdataCode};
+use knx_model::{Datagram, IpFrame, Ldata, LdataCode};
 use line_frames::{datagram_in, ldata_in};
 use line_model::{ChannelTook, Try};
 
@@ -53,6 +54,7 @@ impl Known {
             ChannelTook::Up { tunnel } => {
                 self.tries = Tries::Zero;
                 self.flight = Flight::none();
+                self.put = None;
                 Answer::only(What::Up { tunnel })
             }
             ChannelTook::RefusedBy { status } => {
@@ -80,23 +82,22 @@ impl Known {
         }
     }
 
-    /// Takes the cEMI octets of the gateway's next request.
+    /// Takes the cEMI octets of the gateway's next request. A confirmation that isn't that of the request put last is for no one.
     fn heard(&mut self, octets: &Datagram) -> What
-        ensures answer { result ≡ what_heard (ldata_in octets.now) }
+        ensures answer { result ≡ what_heard self.old.put (ldata_in octets.now) }
         ensures next { self.new ≡ with_heard (ldata_in octets.now) self.old }
     {
-        match ldata_in(octets.as_slice()) {
-            None => {
-                self.drops();
-                What::Dropped
+        let Some(frame) = ldata_in(octets.as_slice()) else {
+            self.drops();
+            return What::Dropped;
+        };
+        if frame.code == LdataCode::Con {
+            if !is_confirmation_of(&self.put, &frame) {
+                return What::Tunnel;
             }
-            Some(frame) => {
-                if frame.code == LdataCode::Con {
-                    self.flight = self.flight.confirmed();
-                }
-                What::Frame(frame)
-            }
+            self.flight = self.flight.confirmed();
         }
+        What::Frame(frame)
     }
 
     fn drops(&mut self)
@@ -110,6 +111,25 @@ impl Known {
     {
         self.taken = self.taken.saturating_add(1);
     }
+}
+
+/// Whether a confirmation is that of the frame put last, if one was: it has its destination and its TPDU.
+fn is_confirmation_of(put: &Option<Ldata>, con: &Ldata) -> bool
+    requires { is_con con.now.code ≡ true }
+    ensures { result ≡ is_confirmation_of put.now (Some con.now) }
+{
+    match put {
+        None => false,
+        Some(frame) => is_alike(frame, con),
+    }
+}
+
+fn is_alike(frame: &Ldata, con: &Ldata) -> bool
+    ensures { result ≡ is_alike frame.now con.now }
+{
+    con.group == frame.group
+        && con.destination == frame.destination
+        && con.tpdu.as_slice() == frame.tpdu.as_slice()
 }
 
 /// Whether this is an awaited answer to a heartbeat.

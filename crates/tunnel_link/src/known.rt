@@ -11,16 +11,18 @@ ghost use Rattle.tunnel_link.specs.Rights.{IsntRefusal, IsOfLink, fault_by, has_
 
 use crate::flight::Flight;
 use crate::tries::Tries;
-use knx_model::Datagram;
+use knx_model::{Datagram, Ldata};
+use line_frames::ldata_in;
 use line_model::{ChannelExpired, HubFault, LinkFault};
 use tunnel_channel::Channel;
 
-/// What the client knows of its tunnel: its end of the channel, what came of the request that it put last, how the tries since the last
-/// channel failed, how many datagrams were dropped and how many were got, awaited connection state responses aside, and why it has ended.
+/// What the client knows of its tunnel: its end of the channel, what came of the request that it put last, and its frame, how the tries since
+/// the last channel failed, how many datagrams were dropped and how many were got, awaited connection state responses aside, and why it has ended.
 #[derive(Drop)]
 pub struct Known {
     pub channel: Channel,
     pub flight: Flight,
+    pub put: Option<Ldata>,
     pub tries: Tries,
     pub dropped: u64,
     pub taken: u64,
@@ -35,6 +37,7 @@ impl Known {
         Known {
             channel: Channel::new(),
             flight: Flight::none(),
+            put: None,
             tries: Tries::Zero,
             dropped: 0,
             taken: 0,
@@ -67,6 +70,7 @@ impl Known {
         match self.channel.put(cemi.as_slice(), now) {
             Ok(request) => {
                 self.flight = Flight::put();
+                self.put = ldata_in(cemi.as_slice());
                 Some(request)
             }
             Err(_) => None,

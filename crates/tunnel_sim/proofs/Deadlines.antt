@@ -1,6 +1,6 @@
 -- Up to its deadline the gateway has nothing due.
 use Rattle.std.proofs.Common.{◌≡◌, ◌≢◌, ℕ, ◌+◌, ◌<◌, ◌≤◌, ◌⊎◌, ◌↔◌, inl, inr, Bool, true, false, Option, Some, None, refl, ap, sym, subst, ◌∙◌, arith, if◌then◌else◌}
-use Rattle.std.specs.Prelude.{nat_le, nat_lt}
+use Rattle.std.specs.Prelude.{nat_le}
 use Rattle.knx_model.specs.Connection.{last_time, wait_end, earlier_time}
 use Rattle.knx_model.specs.ConnectionLaws.{Reached}
 use Rattle.line_model.specs.Gateway.{Gateway, Channel, Request, GatewayExpired, Nothing, Repeat, Closing, channel_expired, gateway_expired, client_wait, acknowledgement_wait}
@@ -15,14 +15,14 @@ IsBefore at (Some end) = at < end
 
 -- ---- no time is beyond the last one
 
-wait_within : (wait since : ℕ) → wait_end wait since ≤ last_time
+pub wait_within : (wait since : ℕ) → wait_end wait since ≤ last_time
 wait_within wait since = by_sum (nat_le (since + wait) last_time) refl
   where
     by_sum : (t : Bool) → nat_le (since + wait) last_time ≡ t → (if t then since + wait else last_time) ≤ last_time
     by_sum true e = grind arith
     by_sum false e = omega arith
 
-earlier_within : (one other : ℕ) → one ≤ last_time → other ≤ last_time → earlier_time one other ≤ last_time
+pub earlier_within : (one other : ℕ) → one ≤ last_time → other ≤ last_time → earlier_time one other ≤ last_time
 earlier_within one other h g = by_order (nat_le one other)
   where
     by_order : (t : Bool) → (if t then one else other) ≤ last_time
@@ -63,13 +63,13 @@ channel_waits law c at (Some t) is before =
     late : t ≤ at → ⊥
     late h = omega (arith, h, before)
 
-gateway_still : IsExact → (g : Gateway) (at : ℕ) → IsBefore at (channel_deadline g.channel) → gateway_expired g at ≡ Nothing
+pub gateway_still : IsExact → (g : Gateway) (at : ℕ) → IsBefore at (channel_deadline g.channel) → gateway_expired g at ≡ Nothing
 unfolding gateway_expired
 gateway_still law g at before = channel_waits law g.channel at (channel_deadline g.channel) refl before
 
 -- ---- a wait
 
-its_channel : (n : TunnelNow) (t : Tunnel) → IsTunnel n t → t.gateway.channel ≡ n.gateway.end.channel
+pub its_channel : (n : TunnelNow) (t : Tunnel) → IsTunnel n t → t.gateway.channel ≡ n.gateway.end.channel
 its_channel n t is = ap (λ (e : GatewayEnd). e.channel) is.gateway.end
 
 at_once : (g : Gateway) (now k : ℕ) → k ≡ 0 → gateway_expired g now ≡ Nothing → gateway_expired g (now + k) ≡ Nothing

@@ -1,5 +1,5 @@
 -- The datagram that goes next may come.
-use Rattle.std.proofs.Common.{◌≡◌, ℕ, zero, suc, ◌+◌, Bool, true, false, ◌&&◌, ◌==◌, List, [], ◌∷◌, Option, Some, None, refl, ap, sym, subst, ◌∙◌, arith, if◌then◌else◌}
+use Rattle.std.proofs.Common.{◌≡◌, ℕ, suc, ◌+◌, Bool, true, false, ◌&&◌, ◌==◌, List, [], ◌∷◌, Option, Some, None, refl, ap, sym, subst, ◌∙◌, arith, if◌then◌else◌}
 use Rattle.std.specs.Prelude.{IfSome, slice_get}
 use Rattle.std.proofs.lemmas.Bool.{and_parts}
 use Rattle.line_model.specs.Deliveries.{is_under_way, oldest, or_here}
@@ -14,7 +14,7 @@ use Rattle.tunnel_sim.specs.Tunnels.{TunnelNow, IsTunnel}
 
 -- ---- tests
 
-may_come : (reach : Reach) (m age : ℕ) (sent : List Sent) → OfSent (λ s. passes reach m age s ≡ true) (slice_get sent age) → MayCome reach m sent age
+pub may_come : (reach : Reach) (m age : ℕ) (sent : List Sent) → OfSent (λ s. passes reach m age s ≡ true) (slice_get sent age) → MayCome reach m sent age
 may_come Every m age sent h = by_sent (slice_get sent age) h
   where
     by_sent : (o : Option Sent) → OfSent (λ s. passes Every m age s ≡ true) o → OfSent (IsUnderWay m age) o

@@ -3,6 +3,7 @@
 use Rattle.std.specs.Prelude.{◌≡◌, ℕ, suc, ◌-◌, ◌^◌, ◌<◌, Bool, true, false, not, ◌==◌, List, [], ◌++◌, length, drop, Option, Some, None, option_map}
 use Rattle.knx_model.specs.declared.address.IndAddr.{IndAddr}
 use Rattle.knx_model.specs.declared.frames.cemi.Ldata.{Ldata}
+use Rattle.knx_model.specs.declared.frames.cemi.LdataCode.TheVariants.{Con}
 use Rattle.knx_model.specs.declared.frames.ip.IpFrame.{IpFrame}
 use Rattle.knx_model.specs.declared.frames.ip.IpFrame.TheVariants.{ConnectRequest, DisconnectRequest}
 use Rattle.knx_model.specs.Cemi.{Written as cemi_octets}
@@ -81,6 +82,10 @@ dropped_if false frames = frames
 abbrev pub joined : List Ldata → Option (List ℕ) → List Ldata
 joined frames None = frames
 joined frames (Some cemi) = frames ++ to_bus (ldata_in cemi)
+
+-- a frame's confirmation, where it is to a group or the device that it is for took it, or not
+abbrev pub confirmed : Ldata → Bool → Ldata
+confirmed frame is_confirmed = record frame { code = Con; error = not is_confirmed }
 
 -- ---- what the gateway sends of itself: the octets of a frame, to an endpoint
 

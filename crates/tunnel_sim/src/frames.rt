@@ -4,6 +4,7 @@ ghost use Rattle.std.specs.Prelude.{◌≡◌, option_to_list};
 ghost use Rattle.line_model.specs.Gateway.{to_bus};
 ghost use Rattle.line_model.specs.Reading.{ldata_in};
 ghost use Rattle.line_model.specs.World.{on_bus};
+ghost use Rattle.tunnel_sim.specs.Gateways.{confirmed};
 
 use knx_model::{IndAddr, Ldata, LdataCode};
 use line_frames::ldata_in;
@@ -38,5 +39,16 @@ pub fn on_bus(address: IndAddr, frame: &Ldata) -> Ldata
         source: address.raw,
         destination: frame.destination,
         tpdu: frame.tpdu.copied(),
+    }
+}
+
+/// The confirmation of a frame: with error where it isn't confirmed.
+pub fn confirmation(frame: Ldata, is_confirmed: bool) -> Ldata
+    ensures { result ≡ confirmed frame is_confirmed }
+{
+    Ldata {
+        code: LdataCode::Con,
+        error: !is_confirmed,
+        ..frame
     }
 }

@@ -238,8 +238,8 @@ fn wait(frames: &mut VecDeque<Ldata>, frame: Option<Ldata>)
     }
 }
 
-/// One more, where there is one.
-fn counted(more: bool, count: u64) -> u64
+/// One more, where there is one. A count stands still at the greatest number of 64 bits.
+pub fn counted(more: bool, count: u64) -> u64
     ensures { result ≡ capped (and_one more count) }
 {
     if more { count.saturating_add(1) } else { count }

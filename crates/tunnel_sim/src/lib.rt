@@ -6,6 +6,7 @@ mod frames;
 mod gateway;
 mod tunnel;
 
-pub use gateway::{Due, Gateway};
+pub use frames::confirmation;
+pub use gateway::{Due, Gateway, Letter, counted};
 pub use knx_model::{Datagram, IndAddr, Ldata, NoMemory};
-pub use tunnel::{AtGateway, Tunnel};
+pub use tunnel::{AtGateway, DEFAULT_TUNNEL, Tunnel};

@@ -5,6 +5,7 @@ mod group;
 mod pump;
 mod taking;
 mod turn;
+mod watch;
 
 ghost use Rattle.std.specs.Prelude.{◌≡◌, ◌≤◌, ◌<◌, ◌+◌, ◌^◌, ◌-◌, min, length, map, replicate, reverse, List, [], IfOk, IfErr, Some, None};
 ghost use Rattle.std.specs.List.{AllByRecursion};

@@ -2,7 +2,7 @@
 
 use super::{JobKind, group_turns, jobs_of};
 use knx_model::{List, NoMemory, Octets};
-use line_fixed::{FixedLink, Item};
+use line_fixed::{FixedLink, FixedWatcher, Item};
 use line_model::Open;
 use shared_hub::commission;
 use std::alloc::Global;
@@ -70,7 +70,8 @@ fn drive<R: Abort + Threads + Wait + Sync>(
     gives.push(Octets::from_slice(alloc, &CONNECTED)?)?;
     gives.push(Octets::from_slice(alloc, row.got)?)?;
     let link = FixedLink::new(alloc, gives, None, List::new(alloc));
-    let (link, report) = commission(rt, alloc, jobs, groups, link, 1, &Open);
+    let nobody: Option<FixedWatcher> = None;
+    let (link, report, _) = commission(rt, alloc, jobs, groups, link, 1, &Open, nobody);
     assert_eq!(rt; report.dropped, row.dropped, "{}", row.name);
     let sent = sent_after(&link, row.got);
     assert!(rt; sent == Some((row.sent, row.at)), "{}", row.name);

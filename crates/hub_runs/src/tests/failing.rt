@@ -10,7 +10,7 @@ use crate::gateway::TUNNEL;
 use bus_sim::{Refused, Script, SimBus};
 use hub_core::{HubFault, LogWhat};
 use knx_model::{Image, List, NoMemory};
-use line_fixed::FailingLink;
+use line_fixed::{FailingLink, FixedWatcher};
 use line_model::{Open, Report};
 use shared_hub::commission;
 use std::alloc::Global;
@@ -51,7 +51,9 @@ fn run<R: Abort + Threads + Wait + Sync>(
     let jobs = jobs_of(alloc, &[JobKind::Load])?;
     assert!(rt; jobs.len() < 100);
     let groups = group_turns(alloc, &[])?;
-    Ok(commission(rt, alloc, jobs, groups, link, 1, &Open))
+    let nobody: Option<FixedWatcher> = None;
+    let (link, report, _) = commission(rt, alloc, jobs, groups, link, 1, &Open, nobody);
+    Ok((link, report))
 }
 
 /// What the device runs: the last octet of its only group address, and 0 where it is stopped.

@@ -5,6 +5,7 @@ use crate::gateway::{Gateway, Mood};
 use device_sim::Device;
 use hub_core::LogWhat;
 use knx_model::NoMemory;
+use line_fixed::FixedWatcher;
 use line_model::Open;
 use shared_hub::commission;
 use std::alloc::Global;
@@ -67,7 +68,8 @@ fn drive<R: Abort + Threads + Wait + Sync>(
     assert!(rt; row.groups.len() < 100);
     let groups = group_turns(alloc, row.groups)?;
     let link = Gateway::new(alloc, Device::blank(alloc, DEVICE)?, row.mood);
-    let (link, report) = commission(rt, alloc, jobs, groups, link, 1, &Open);
+    let nobody: Option<FixedWatcher> = None;
+    let (link, report, _) = commission(rt, alloc, jobs, groups, link, 1, &Open, nobody);
     assert_eq!(rt; link.side.connects, row.connects, "{}", row.name);
     assert_eq!(rt; link.side.disconnects, row.disconnects, "{}", row.name);
     assert_eq!(rt; report.fault.is_some(), row.fails, "{}", row.name);

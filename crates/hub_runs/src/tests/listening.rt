@@ -2,7 +2,7 @@
 
 use super::{Telegram, group_turns};
 use knx_model::{List, NoMemory, Octets};
-use line_fixed::FixedLink;
+use line_fixed::{FixedLink, FixedWatcher};
 use line_model::Open;
 use shared_hub::commission;
 use std::alloc::Global;
@@ -46,7 +46,9 @@ fn none_is_missed_while_there_is_memory(rt: HostRuntime) -> Result<(), Fail> {
     }
     let groups = group_turns(alloc, &[Telegram::Write])?;
     let link = FixedLink::new(alloc, gives, None, List::new(alloc));
-    let (_link, report) = commission(&rt, alloc, List::new(alloc), groups, link, 1, &Open);
+    let nobody: Option<FixedWatcher> = None;
+    let jobs = List::new(alloc);
+    let (_link, report, _) = commission(&rt, alloc, jobs, groups, link, 1, &Open, nobody);
     assert!(rt; report.fault.is_none());
     assert_eq!(rt; report.missed, 0);
     assert_eq!(rt; report.heard.len(), MANY as usize);

@@ -25,6 +25,18 @@ const CONFIRMED: [u8; 20] = [
     0x11, 0x05, 0x00, 0x80,
 ];
 
+/// A confirmation of a T_Connect to another device, 1.1.6.
+const OF_ANOTHER: [u8; 20] = [
+    0x06, 0x10, 0x04, 0x20, 0x00, 0x14, 0x04, 0x01, 0x00, 0x00, 0x2E, 0x00, 0xBC, 0x60, 0x11, 0xFF,
+    0x11, 0x06, 0x00, 0x80,
+];
+
+/// A confirmation of a T_Disconnect to the device.
+const OF_ANOTHER_FRAME: [u8; 20] = [
+    0x06, 0x10, 0x04, 0x20, 0x00, 0x14, 0x04, 0x01, 0x00, 0x00, 0x2E, 0x00, 0xBC, 0x60, 0x11, 0xFF,
+    0x11, 0x05, 0x00, 0x81,
+];
+
 /// A call of the hub, by its one worker.
 #[derive(Clone, Copy, Drop)]
 enum Call {
@@ -36,6 +48,8 @@ enum Call {
 #[derive(Drop)]
 struct Row {
     name: &'static str,
+    /// The gateway's first request.
+    first: &'static [u8],
     calls: &'static [Call],
     ends: u64,
 }
@@ -71,11 +85,11 @@ fn ends_at(hub: Hub<FixedLink>, calls: &[Call]) -> Option<u64>
     newest_time(&link)
 }
 
-fn gives(alloc: Global) -> Result<List<Octets>, NoMemory> {
+fn gives(alloc: Global, first: &[u8]) -> Result<List<Octets>, NoMemory> {
     let mut gives = List::new(alloc);
     gives.push(Octets::from_slice(alloc, &CONNECTED)?)?;
     gives.push(Octets::from_slice(alloc, &ACKNOWLEDGED)?)?;
-    gives.push(Octets::from_slice(alloc, &CONFIRMED)?)?;
+    gives.push(Octets::from_slice(alloc, first)?)?;
     Ok(gives)
 }
 
@@ -83,7 +97,7 @@ fn drive<R: Abort>(rt: &R, alloc: Global, row: &Row) -> Result<(), NoMemory> {
     let jobs = jobs_of(alloc, &[JobKind::Load])?;
     assert!(rt; jobs.len() < 100);
     let groups = group_turns(alloc, &[])?;
-    let link = FixedLink::new(alloc, gives(alloc)?, None, List::new(alloc));
+    let link = FixedLink::new(alloc, gives(alloc, row.first)?, None, List::new(alloc));
     let ends = match Hub::begin(alloc, jobs, groups, 1, link) {
         Ok(hub) => ends_at(hub, row.calls),
         Err(_) => None,
@@ -99,21 +113,43 @@ fn polls_last_as_they_should(rt: HostRuntime) -> Result<(), Fail> {
     let rows = [
         Row {
             name: "no attempt has begun",
+            first: &CONFIRMED,
             calls: &[Turn, Pump, Pump, Pump, Pump],
             ends: 100,
         },
         Row {
             name: "the confirmation waits for its worker",
+            first: &CONFIRMED,
             calls: &[Turn, Pump, Turn, Pump, Pump, Pump],
             ends: 0,
         },
         Row {
+            name: "the confirmation is another device's",
+            first: &OF_ANOTHER,
+            calls: &[Turn, Pump, Turn, Pump, Pump, Pump],
+            ends: 100,
+        },
+        Row {
+            name: "the confirmation is another frame's",
+            first: &OF_ANOTHER_FRAME,
+            calls: &[Turn, Pump, Turn, Pump, Pump, Pump],
+            ends: 100,
+        },
+        Row {
+            name: "a confirmation that is another's brings no connection up",
+            first: &OF_ANOTHER,
+            calls: &[Turn, Pump, Turn, Pump, Pump, Turn, Pump],
+            ends: 100,
+        },
+        Row {
             name: "the worker has an operation to send",
+            first: &CONFIRMED,
             calls: &[Turn, Pump, Turn, Pump, Pump, Turn, Pump],
             ends: 0,
         },
         Row {
             name: "the operation is sent",
+            first: &CONFIRMED,
             calls: &[Turn, Pump, Turn, Pump, Pump, Turn, Turn, Pump],
             ends: 100,
         },

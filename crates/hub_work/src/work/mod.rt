@@ -4,7 +4,7 @@ mod closing;
 mod deliver;
 mod turn;
 
-ghost use Rattle.std.specs.Prelude.{◌≡◌, ℕ, ◌<◌, length, map, reverse, ◌/◌, ◌==◌, not, is_none, true, false, IfOk, IfSome, None};
+ghost use Rattle.std.specs.Prelude.{◌≡◌, ℕ, ◌-◌, ◌<◌, ◌≤◌, length, map, reverse, ◌/◌, ◌==◌, not, is_none, true, false, [], IfOk, IfSome, None, Some};
 ghost use Rattle.hub_work.specs.declared.job.HubJob.{HubJob as Job};
 ghost use Rattle.std.specs.List.{AllByRecursion, find};
 ghost use Rattle.knx_model.specs.declared.address.IndAddr.{IndAddr as Address};
@@ -12,7 +12,10 @@ ghost use Rattle.line_model.specs.ClientEnd.{IsCemi};
 ghost use Rattle.line_model.specs.Log.{IsNextTurn};
 ghost use Rattle.line_model.specs.Waiting.{longest_poll, LastsUntil};
 ghost use Rattle.hub_work.specs.Downloaders.{task_of_hub_job};
+ghost use Rattle.hub_work.specs.Books.{held_at};
 ghost use Rattle.hub_work.specs.Follows.{BeginsRightly, TelegramIsRight, TelegramFollows, TellingFollows};
+ghost use Rattle.hub_work.specs.Going.{HasGone};
+ghost use Rattle.hub_work.specs.Journals.{newest};
 ghost use Rattle.hub_work.specs.Polls.{BusyRightly, does_something, deadline_at, end_of_closing, is_busy_at, IsDue, LooksOrLasts, PollsRightly, LastsOnceSent};
 ghost use Rattle.hub_work.specs.Requests.{IsTurnInRange};
 ghost use Rattle.hub_work.specs.Telegrams.{IsNextRequest, next_of};
@@ -21,14 +24,14 @@ ghost use Rattle.hub_work.specs.Waits.{HoldsBack};
 ghost use Rattle.hub_work.specs.Works.{KeepsBooks, SameRun, SameBooks, BeginsWith, HasUnfinished, FindsElsewhere, tasks};
 
 use crate::closing::Closing;
-use crate::crew::Crew;
+use crate::crew::{Crew, Held};
 use crate::downloaders::Downloaders;
 use crate::job::HubJob;
 use crate::journal::Journal;
 use crate::laws::of_a_downloader;
 use crate::telegrams::{Stage, Telegrams};
 use device_reservation::Jobs;
-use download_core::{Did, each_operation_can_be_sent};
+use download_core::{Did, Gone, each_operation_can_be_sent};
 use knx_model::{Datagram, IndAddr, List, NoMemory};
 use line_model::{GroupTurn, LONGEST_POLL_MS, LogEntry, LogWhat, until};
 use std::alloc::Global;
@@ -116,6 +119,25 @@ impl Work {
         ensures small { result < 18446744073709551615 }
     {
         self.journal.len() as u64
+    }
+
+    /// The newest entry of the log.
+    pub fn newest(&self) -> Option<&LogEntry>
+        ensures some { IfSome result (λ e. newest self.now.journal.entries ≡ Some e.now) }
+        ensures none { result ≡ None → self.now.journal.entries ≡ [] }
+    {
+        self.journal.newest()
+    }
+
+    /// The job that a worker holds, from 1, and how far it has come.
+    pub fn gone(&self, worker: u8) -> Option<(Held, Gone)>
+        ensures from_1 { IfSome result (λ gone. 1 ≤ worker) }
+        ensures held { IfSome result (λ gone. held_at self.now.crew (worker - 1) ≡ Some gone.0) }
+        ensures gone { IfSome result (λ gone. HasGone self.now.downloaders gone.0.job gone.1) }
+    {
+        let held = self.crew.held(worker)?;
+        let gone = self.downloaders.gone(held.job)?;
+        Some((held, gone))
     }
 
     /// Whether a job has no end yet.

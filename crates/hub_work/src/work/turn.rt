@@ -10,7 +10,7 @@ ghost use Rattle.hub_work.specs.Came.{waiting_at, TakesOneIn};
 ghost use Rattle.hub_work.specs.Crew.{holdings, after_begun};
 ghost use Rattle.hub_work.specs.Comes.{TookFollows, EndFollows, after_end};
 ghost use Rattle.hub_work.specs.Downloaders.{changed, states};
-ghost use Rattle.hub_work.specs.Requests.{request_with};
+ghost use Rattle.line_frames.specs.Requests.{request_with};
 ghost use Rattle.line_model.specs.ClientEnd.{IsCemi};
 ghost use Rattle.hub_work.specs.Turns.{Adds, HasFinished, IsEnd, WaitsFree, PutsCemi, PutsWhere, EndsJob, TurnSuits, TurnTold};
 ghost use Rattle.hub_work.specs.Follows.{TurnFollows};

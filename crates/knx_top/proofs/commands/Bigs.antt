@@ -58,6 +58,7 @@ report_summed counts (ends.Reports told) = refl
 report_summed counts (ends.Sums told counted) = refl
 report_summed counts (ends.Serves served) = refl
 report_summed counts (ends.Finds searched) = refl
+report_summed counts (ends.Assigns given) = refl
 
 -- a run of which the sums are told
 pub runs_made : (words : BigWords) (before : BusNow) (after : Left) (counts : Counts) (ran told : End) → counts ≡ counts_of (made words) → told ≡ summed counts ran → Runs (commission_made words) before after.line ran → after.report ≡ report_in told
@@ -80,6 +81,7 @@ wanting_summed counts (ends.Reports told) = refl
 wanting_summed counts (ends.Sums told counted) = refl
 wanting_summed counts (ends.Serves served) = refl
 wanting_summed counts (ends.Finds searched) = refl
+wanting_summed counts (ends.Assigns given) = refl
 
 pub made_written : (words : BigWords) (before : BusNow) (after : Left) (end : End) (Replied : End → Type 0) → RunsMade words before after (Is end) → Replied end ⊎ Replied (wanting end) → RunsMade words before after Replied
 made_written words before after end Replied t (inl replied) = record {

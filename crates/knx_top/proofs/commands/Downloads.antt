@@ -101,6 +101,7 @@ dials_wants d before after (ends.Reports told) h = (told.jobs, h.0)
 dials_wants d before after (ends.Sums told counts) h = absurd h
 dials_wants d before after (ends.Serves served) h = absurd h
 dials_wants d before after (ends.Finds searched) h = absurd h
+dials_wants d before after (ends.Assigns given) h = absurd h
 
 pub dialled_written : (words : DownloadWords) (files files' : FilesNow) (before after : DialerNow) (report : Option Report) (end : End) (Replied : End → Type 0) → RunsDialled words files files' before after report (Is end)
     → Replied end ⊎ Replied (wanting end) → RunsDialled words files files' before after report Replied

@@ -35,6 +35,7 @@ no_run words before after (ends.Reports told) h = absurd h
 no_run words before after (ends.Sums told counts) h = absurd h
 no_run words before after (ends.Serves served) h = absurd h
 no_run words before after (ends.Finds searched) h = refl
+no_run words before after (ends.Assigns given) h = absurd h
 
 pub find_no_run : (words : FindWords) (before after : DialerNow) (end : End) → RunsFind words before after (Is end) → report_in end ≡ None
 find_no_run words before after end t = subst (λ (told : End). report_in told ≡ None) t.replied (no_run words before after t.end t.finds)
@@ -55,6 +56,7 @@ finds_wants words before after (ends.Reports told) h = absurd h
 finds_wants words before after (ends.Sums told counts) h = absurd h
 finds_wants words before after (ends.Serves served) h = absurd h
 finds_wants words before after (ends.Finds searched) h = untold_so words before after searched h
+finds_wants words before after (ends.Assigns given) h = absurd h
 
 pub find_written : (words : FindWords) (before after : DialerNow) (end : End) (Replied : End → Type 0) → RunsFind words before after (Is end) → Replied end ⊎ Replied (wanting end) → RunsFind words before after Replied
 find_written words before after end Replied t (inl replied) = record { end = t.end; finds = t.finds; replied = subst Replied (sym t.replied) replied }

@@ -133,6 +133,7 @@ serving_is_no_run s before after line line' (ends.Reports told) h = absurd h
 serving_is_no_run s before after line line' (ends.Sums told counts) h = absurd h
 serving_is_no_run s before after line line' (ends.Serves served) h = refl
 serving_is_no_run s before after line line' (ends.Finds searched) h = absurd h
+serving_is_no_run s before after line line' (ends.Assigns given) h = absurd h
 
 pub begins_no_run : (j : Result Service Stop) (before after : DialerNow) (line line' : BusNow) (end : End) → ServesOr j before after line line' end → report_in end ≡ None
 begins_no_run (Err why) before after line line' end h = stopped_report why end h.0
@@ -168,6 +169,7 @@ serves_wants s before after line line' (ends.Reports told) h = absurd h
 serves_wants s before after line line' (ends.Sums told counts) h = absurd h
 serves_wants s before after line line' (ends.Serves served) h = record { given = h.given; once = h.once; since = h.since; count = h.count; serving = untold_so s line' after.port_back h.since after.faults served h.serving }
 serves_wants s before after line line' (ends.Finds searched) h = absurd h
+serves_wants s before after line line' (ends.Assigns given) h = absurd h
 
 pub gateway_written : (words : GatewayWords) (files files' : FilesNow) (before after : DialerNow) (line line' : BusNow) (end : End) (Replied : End → Type 0) → RunsGateway words files files' before after line line' (Is end)
     → Replied end ⊎ Replied (wanting end) → RunsGateway words files files' before after line line' Replied

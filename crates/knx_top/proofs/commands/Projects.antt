@@ -73,6 +73,7 @@ text_wants IsText (ends.Reports told) h = absurd h
 text_wants IsText (ends.Sums told counts) h = absurd h
 text_wants IsText (ends.Serves served) h = absurd h
 text_wants IsText (ends.Finds searched) h = absurd h
+text_wants IsText (ends.Assigns given) h = absurd h
 
 pub project_written : (IsText : Installation → List ℕ → Type 0) (words : ProjectWords) (files files' : FilesNow) (end : End) (Replied : End → Type 0) → TellsOfProject IsText words files files' (Is end) → Replied end ⊎ Replied (wanting end)
     → TellsOfProject IsText words files files' Replied
@@ -106,6 +107,7 @@ stop_no_run why (ends.Reports told) h = absurd h
 stop_no_run why (ends.Sums told counts) h = absurd h
 stop_no_run why (ends.Serves served) h = absurd h
 stop_no_run why (ends.Finds searched) h = absurd h
+stop_no_run why (ends.Assigns given) h = absurd h
 
 pub text_no_run : (IsText : List ℕ → Type 0) (end : End) → TellsText IsText end → report_in end ≡ None
 text_no_run IsText (ends.Stops told) h = refl
@@ -116,6 +118,7 @@ text_no_run IsText (ends.Reports told) h = absurd h
 text_no_run IsText (ends.Sums told counts) h = absurd h
 text_no_run IsText (ends.Serves served) h = absurd h
 text_no_run IsText (ends.Finds searched) h = absurd h
+text_no_run IsText (ends.Assigns given) h = absurd h
 
 pub project_no_run : (IsText : Installation → List ℕ → Type 0) (words : ProjectWords) (files files' : FilesNow) (end : End) → TellsOfProject IsText words files files' (Is end) → report_in end ≡ None
 project_no_run IsText words files files' end t = subst (λ (told : End). report_in told ≡ None) t.replied (by_tests (first_some (project_tests words t.texts)) refl) where

@@ -142,6 +142,7 @@ run_wants c before after (ends.Reports told) h = (told.jobs, h.ran)
 run_wants c before after (ends.Sums told counts) h = absurd h
 run_wants c before after (ends.Serves served) h = absurd h
 run_wants c before after (ends.Finds searched) h = absurd h
+run_wants c before after (ends.Assigns given) h = absurd h
 
 pub script_written : (words : SimWords) (files files' : FilesNow) (before : BusNow) (after : Left) (end : End) (Replied : End → Type 0) → RunsScript words files files' before after (Is end) → Replied end ⊎ Replied (wanting end)
     → RunsScript words files files' before after Replied

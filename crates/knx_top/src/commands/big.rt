@@ -1,11 +1,13 @@
 //! `big N START`: a run of `sim` over the line of N devices that a number makes, told in one line.
 
-ghost use Rattle.std.specs.Prelude.{◌≡◌, ◌≢◌, ◌≤◌, Err, IfErr, IfOk, map, string_bytes};
+ghost use Rattle.std.specs.Prelude.{◌≡◌, ◌≢◌, ◌≤◌, Err, IfErr, IfOk, false, map, string_bytes};
 ghost use Rattle.call_words.specs.declared.stop.Stop.TheVariants.{NoMemory as OutOfMemory};
 ghost use Rattle.knx_model.specs.Counts.{counts_of};
 ghost use Rattle.knx_top.specs.Begun.{OrderFor};
 ghost use Rattle.knx_top.specs.Ending.{Is, report_in};
 ghost use Rattle.knx_top.specs.Ran.{FaultsOfLine};
+ghost use Rattle.knx_top.specs.Watched.{TellsWatcher};
+ghost use Rattle.line_model.specs.Watched.{watch_in};
 ghost use Rattle.knx_top.specs.commands.Big.{RunsMade, big_words, judged_made, made, most_devices, start_value, summed};
 
 use crate::commands::sim::judge::{Order, judge_behind};
@@ -19,7 +21,7 @@ use call_words::{InputFile, Stop};
 use knx_gen::laws::each_project_is_checked;
 use knx_gen::{GroupNames, project_from};
 use knx_model::{Catalogue, Counts};
-use line_model::Gate;
+use line_model::{Gate, Watcher};
 use std::alloc::Global;
 use std::marker::Model;
 use std::sync::Wait;
@@ -107,20 +109,22 @@ fn summed(end: End, counts: Counts) -> End
 }
 
 /// A call of `big`.
-pub fn call<R: Threads + Wait + Sync, G: Gate + Sync>(
+pub fn call<R: Threads + Wait + Sync, G: Gate + Sync, W: Watcher + Send>(
     rt: &R,
     alloc: Global,
     numbers: &BigNumbers,
     sim: &mut SimBus,
     gate: &G,
+    watch: &mut Option<W>,
 ) -> End
     ensures told { RunsMade numbers.now sim.old (record { line = sim.new; report = report_in result }) (Is result) }
     ensures link { FaultsOfLine (report_in result) sim.new }
+    ensures watched { TellsWatcher false (report_in result) (watch_in W.watch watch.old) (watch_in W.watch watch.new) }
 {
     each_project_is_checked();
     match judge(rt, alloc, numbers) {
         Ok((order, counts)) => {
-            let end = run(rt, alloc, order, &SimOptions::none(), sim, gate);
+            let end = run(rt, alloc, order, &SimOptions::none(), sim, gate, watch);
             summed(end, counts)
         }
         Err(why) => End::Stops(why),

@@ -1,32 +1,34 @@
-//! `download ADDR NEW [catalogue=F] [log] [workers=N]` and jobs: the jobs of a project over a dialled link, which is handed back to the dialer before the call answers.
+//! `download ADDR NEW [catalogue=F] [log] [quiet] [workers=N]` and jobs: the jobs of a project over a dialled link, which is handed back to the dialer before the call answers.
 
-ghost use Rattle.std.specs.Prelude.{◌≡◌, ◌≢◌, ◌≤◌, ◌<◌, ◌+◌, ℕ, [], Err, IfErr, IfOk, List as Seq, length, map, string_bytes};
+ghost use Rattle.std.specs.Prelude.{◌≡◌, ◌≢◌, ◌≤◌, ◌<◌, ◌+◌, ℕ, [], Err, IfErr, IfOk, List as Seq, Some, length, map, string_bytes};
 ghost use Rattle.std.specs.List.{AllByRecursion};
 ghost use Rattle.std.specs.Option.{option_map};
 ghost use Rattle.call_words.specs.declared.stop.Stop.TheVariants.{NoMemory as OutOfMemory};
 ghost use Rattle.line_model.specs.Headline.{IsGoodJob};
 ghost use Rattle.line_model.specs.LinkStory.{IsNewLink};
+ghost use Rattle.line_model.specs.Watched.{watch_in};
 ghost use Rattle.knx_top.specs.Dialled.{HasItsCause, IsToldOver};
 ghost use Rattle.knx_top.specs.Ending.{Is, report_in};
 ghost use Rattle.knx_top.specs.Jobs.{seen_job};
 ghost use Rattle.knx_top.specs.Names.{address_of, options_of};
-ghost use Rattle.knx_top.specs.Options.{most_jobs};
+ghost use Rattle.knx_top.specs.Options.{most_jobs, workers_of};
+ghost use Rattle.knx_top.specs.Watched.{TellsWatcher};
 ghost use Rattle.knx_top.specs.commands.Download.{Dials, DialsOr, Download, IsReady, IsReadyFor, ReadyFor, RunsDialled, download_words, download_words_of, files_of_download, judged_download, project_named, with_project};
 ghost use Rattle.knx_top.specs.commands.Project.{project_words_of};
 
 use crate::ending::{End, Reported};
 use crate::host::{GatewayAddress, address_in};
 use crate::jobs::{all_planned, are_known, images_for, jobs_of};
-use crate::options::{SimOptions, Workers, sim_options};
+use crate::options::{SimOptions, sim_options};
 use crate::project::{
     ProjectNames, ProjectTexts, read_in, read_project_texts, sound_in, unknown_job,
 };
+use crate::watched::{Run, commission};
 use call_words::{InputFile, JobWord, Stop};
 use hub_work::HubJob;
 use knx_model::{Files, List, NoMemory};
-use line_model::{Dialer, Gate, Report};
+use line_model::{Dialer, Gate, Report, Watcher};
 use project_check::Checked;
-use shared_hub::commission;
 use std::alloc::Global;
 use std::sync::Wait;
 use std::thread::Threads;
@@ -127,49 +129,52 @@ fn judge<R: Threads + Sync>(
 }
 
 /// Goes through the jobs over a link that was dialled, and hands it back.
-fn run<R: Threads + Wait + Sync, D: Dialer, G: Gate + Sync>(
+fn run<R: Threads + Wait + Sync, D: Dialer, G: Gate + Sync, W: Watcher + Send>(
     rt: &R,
     alloc: Global,
     plans: List<HubJob>,
-    workers: Workers,
+    options: &SimOptions<'_>,
     dial: &mut D,
     line: D::L,
     gate: &G,
+    watch: &mut Option<W>,
 ) -> Report
     requires new { IsNewLink (D.L.story line) }
     requires sound { D.L.faults line ≡ 0 }
     requires few { length plans < 4294967296 }
     requires good { AllByRecursion IsGoodJob (map seen_job plans) }
-    ensures told { IsToldOver workers [] (map seen_job plans) (D.now dial.new).link_back result }
+    ensures told { IsToldOver (workers_of (options_of options.now)) [] (map seen_job plans) (D.now dial.new).link_back result }
     ensures given { (D.now dial.new).given ≡ (D.now dial.old).given }
     ensures dials { (D.now dial.new).dials ≡ (D.now dial.old).dials }
     ensures cause { HasItsCause result (D.now dial.old).faults (D.now dial.new).faults }
+    ensures watched { TellsWatcher options.now.quiet (Some result) (watch_in W.watch watch.old) (watch_in W.watch watch.new) }
 {
-    let (line, report) = commission(
-        rt,
-        alloc,
-        plans,
-        List::new(alloc),
-        line,
-        workers.count(),
-        gate,
-    );
+    let run = Run {
+        jobs: plans,
+        groups: List::new(alloc),
+        link: line,
+        workers: options.workers().count(),
+        quiet: options.quiet,
+    };
+    let (line, report) = commission(rt, alloc, run, gate, watch);
     dial.hang(line);
     report
 }
 
 /// Dials the gateway, and goes through the jobs over the link. No group telegrams are sent.
-fn dial_and_run<R: Threads + Wait + Sync, D: Dialer, G: Gate + Sync>(
+fn dial_and_run<R: Threads + Wait + Sync, D: Dialer, G: Gate + Sync, W: Watcher + Send>(
     rt: &R,
     alloc: Global,
     names: &DownloadNames<'_>,
     ready: Ready,
     dial: &mut D,
     gate: &G,
+    watch: &mut Option<W>,
 ) -> End
     requires few { length ready.plans < 4294967296 }
     requires good { AllByRecursion IsGoodJob (map seen_job ready.plans) }
-    ensures { (d : Download) → IsReadyFor d ready → d.at ≡ address_of names.now.at → d.options ≡ options_of names.now.options → Dials d (D.now dial.old) (D.now dial.new) result }
+    ensures watched { TellsWatcher names.now.options.quiet (report_in result) (watch_in W.watch watch.old) (watch_in W.watch watch.new) }
+    ensures dials { (d : Download) → IsReadyFor d ready → d.at ≡ address_of names.now.at → d.options ≡ options_of names.now.options → Dials d (D.now dial.old) (D.now dial.new) result }
 {
     match dial.dial(names.at.host, names.at.port) {
         Ok(line) => {
@@ -177,10 +182,11 @@ fn dial_and_run<R: Threads + Wait + Sync, D: Dialer, G: Gate + Sync>(
                 rt,
                 alloc,
                 ready.plans,
-                names.options.workers(),
+                &names.options,
                 dial,
                 line,
                 gate,
+                watch,
             );
             End::Reports(Reported {
                 report,
@@ -195,35 +201,39 @@ fn dial_and_run<R: Threads + Wait + Sync, D: Dialer, G: Gate + Sync>(
 }
 
 /// Judges what was read, and dials what it asks for.
-fn download<R: Threads + Wait + Sync, D: Dialer, G: Gate + Sync>(
+fn download<R: Threads + Wait + Sync, D: Dialer, G: Gate + Sync, W: Watcher + Send>(
     rt: &R,
     alloc: Global,
     names: &DownloadNames<'_>,
     texts: &ProjectTexts,
     dial: &mut D,
     gate: &G,
+    watch: &mut Option<W>,
 ) -> End
-    ensures { DialsOr (judged_download (download_words_of names.now) texts.now) (D.now dial.old) (D.now dial.new) result }
+    ensures watched { TellsWatcher names.now.options.quiet (report_in result) (watch_in W.watch watch.old) (watch_in W.watch watch.new) }
+    ensures dials { DialsOr (judged_download (download_words_of names.now) texts.now) (D.now dial.old) (D.now dial.new) result }
 {
     match judge(rt, alloc, names, texts) {
-        Ok(ready) => dial_and_run(rt, alloc, names, ready, dial, gate),
+        Ok(ready) => dial_and_run(rt, alloc, names, ready, dial, gate, watch),
         Err(why) => End::Stops(why),
     }
 }
 
 /// A call of `download`.
-pub fn call<R: Threads + Wait + Sync, F: Files, D: Dialer, G: Gate + Sync>(
+pub fn call<R: Threads + Wait + Sync, F: Files, D: Dialer, G: Gate + Sync, W: Watcher + Send>(
     rt: &R,
     alloc: Global,
     names: &DownloadNames<'_>,
     files: &mut F,
     dial: &mut D,
     gate: &G,
+    watch: &mut Option<W>,
 ) -> End
     ensures told { RunsDialled (download_words_of names.now) (F.now files.old) (F.now files.new) (D.now dial.old) (D.now dial.new) (report_in result) (Is result) }
     ensures stays { (other : Seq ℕ) → (F.now files.new).file other ≡ (F.now files.old).file other }
     ensures reads { (F.now files.new).reads ≤ (F.now files.old).reads + length (files_of_download (download_words_of names.now)) }
+    ensures watched { TellsWatcher names.now.options.quiet (report_in result) (watch_in W.watch watch.old) (watch_in W.watch watch.new) }
 {
     let texts = read_project_texts(alloc, files, names.project());
-    download(rt, alloc, names, &texts, dial, gate)
+    download(rt, alloc, names, &texts, dial, gate, watch)
 }

@@ -2,8 +2,9 @@
 
 ghost use Rattle.std.specs.Prelude.{◌≡◌, ◌↔◌, ℕ, List, Some, map, string_bytes};
 ghost use Rattle.std.specs.Option.{option_map};
-ghost use Rattle.knx_top.specs.Command.{Command as Commanded, SpellsCommand, asked, command_of};
+ghost use Rattle.knx_top.specs.Command.{Command as Commanded, SpellsCommand, asked, assign_asked, command_of};
 
+pub mod assign;
 pub mod big;
 pub mod check;
 pub mod decode;
@@ -13,6 +14,7 @@ pub mod gateway;
 pub mod sim;
 pub mod tables;
 
+use crate::commands::assign::{AssignNames, AssignSimNames, assign_names, assign_sim_names};
 use crate::commands::big::{BigNumbers, big_numbers};
 use crate::commands::decode::decode_word;
 use crate::commands::download::{DownloadNames, download_names};
@@ -28,18 +30,39 @@ pub enum Command<'a> {
     Check(ProjectNames<'a>),
     /// `tables P [catalogue=F]`
     Tables(ProjectNames<'a>),
-    /// `sim NEW OLD SCRIPT [catalogue=F] [log] [workers=N]`, and jobs
+    /// `sim NEW OLD SCRIPT [catalogue=F] [log] [quiet] [workers=N]`, and jobs
     Sim(SimNames<'a>),
     /// `decode HEX`
     Decode(&'a str),
-    /// `download ADDR NEW [catalogue=F] [log] [workers=N]`, and jobs
+    /// `download ADDR NEW [catalogue=F] [log] [quiet] [workers=N]`, and jobs
     Download(DownloadNames<'a>),
     /// `gateway ADDR OLD SCRIPT turns=N [catalogue=F]`
     Gateway(GatewayNames<'a>),
     /// `find ADDR [describe]`
     Find(FindNames),
+    /// `assign ADDR IA`
+    Assign(AssignNames),
+    /// `assign sim UNITS IA`
+    AssignSim(AssignSimNames<'a>),
     /// `big N START`
     Big(BigNumbers),
+}
+
+/// The command of the words behind `assign`; none for words that are no command.
+fn assign_asked(words: &[String]) -> Option<Command<'_>>
+    ensures { option_map command_of result ≡ assign_asked (map string_bytes words.now) }
+{
+    match words {
+        [address, wanted] => {
+            let names = assign_names(address.as_str(), wanted.as_str())?;
+            Some(Command::Assign(names))
+        }
+        [sim, units, wanted] if sim.as_str() == "sim" => {
+            let names = assign_sim_names(units.as_str(), wanted.as_str())?;
+            Some(Command::AssignSim(names))
+        }
+        _ => None,
+    }
 }
 
 /// The command of the words; none for words that are no command.
@@ -50,6 +73,7 @@ pub fn asked(words: &[String]) -> Option<Command<'_>>
         return None;
     };
     match command.as_str() {
+        "assign" => assign_asked(others),
         "check" => Some(Command::Check(project_names(others)?)),
         "tables" => Some(Command::Tables(project_names(others)?)),
         "sim" => Some(Command::Sim(sim_names(others)?)),

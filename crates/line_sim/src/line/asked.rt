@@ -19,7 +19,6 @@ use super::Line;
 use crate::laws;
 use device_sim::Device;
 use knx_model::{ApduOctets, IpFrame, Ldata, NoMemory, Octets, WriteKind};
-use network_sim::Reach;
 use std::alloc::Global;
 
 impl Line {
@@ -31,8 +30,7 @@ impl Line {
         ensures deliverable { IfSome result (λ age. OfSent IsDeliverable (slice_get self.now.tunnel.up.kept age)) }
         ensures allowed { IfSome result (λ age. (mode : Mode) → Allows mode self.now (Up age)) }
     {
-        network_sim::laws::the_youngest_are_enough();
-        self.tunnel.up.next(Reach::Every, self.tunnel.gateway.made)
+        self.tunnel.next_up()
     }
 
     /// The age of the gateway's datagram that the client gets next at its present endpoint.
@@ -41,10 +39,7 @@ impl Line {
         ensures deliverable { IfSome result (λ age. OfSent IsDeliverable (slice_get self.now.tunnel.down.kept age)) }
         ensures allowed { IfSome result (λ age. Allows Commissions self.now (Down age)) }
     {
-        network_sim::laws::the_youngest_are_enough();
-        self.tunnel
-            .down
-            .next(Reach::To(self.tunnel.present), self.tunnel.gateway.made)
+        self.tunnel.next_down()
     }
 
     /// The age of the datagram of a serving gateway that goes next, to whichever of its clients.
@@ -53,10 +48,7 @@ impl Line {
         ensures deliverable { IfSome result (λ age. OfSent IsDeliverable (slice_get self.now.tunnel.down.kept age)) }
         ensures allowed { IfSome result (λ age. Allows Serves self.now (Down age)) }
     {
-        network_sim::laws::the_youngest_are_enough();
-        self.tunnel
-            .down
-            .next(Reach::Every, self.tunnel.gateway.made)
+        self.tunnel.next_served()
     }
 
     /// The endpoint that the gateway's datagram of an age, which may arrive, goes to.

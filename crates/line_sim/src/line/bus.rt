@@ -5,15 +5,15 @@ ghost use Rattle.knx_model.specs.declared.device.WriteKind.TheVariants.{Memory};
 ghost use Rattle.knx_model.specs.Device.{written_front};
 ghost use Rattle.knx_model.specs.DeviceFrames.{worn_octets};
 ghost use Rattle.line_model.specs.World.{World, Devices as Known, Bus, BusTorn, BusWorn, BusAgain, DevSend, DevRepeat, DevClose, Cut, On, others_take, step};
-ghost use Rattle.line_sim.specs.Line.{IsNow, confirmed, effect_due, write_due};
+ghost use Rattle.line_sim.specs.Line.{IsNow, effect_due, write_due};
 ghost use Rattle.line_sim.specs.Places.{AreDevices, IsDue};
-ghost use Rattle.line_sim.specs.Tunnels.{at_gateway};
+ghost use Rattle.tunnel_sim.specs.Tunnels.{at_gateway};
 
 use super::Line;
 use crate::devices::Devices;
-use crate::tunnel::AtGateway;
-use knx_model::{Ldata, LdataCode, NoMemory};
+use knx_model::{Ldata, NoMemory};
 use std::alloc::Global;
+use tunnel_sim::{AtGateway, confirmation};
 
 impl Line {
     // ---- frames of the client
@@ -159,16 +159,5 @@ fn to_others(
         Ok(())
     } else {
         Ok(())
-    }
-}
-
-/// The confirmation of the client's frame: with error where it isn't confirmed.
-fn confirmation(frame: Ldata, is_confirmed: bool) -> Ldata
-    ensures { result ≡ confirmed frame is_confirmed }
-{
-    Ldata {
-        code: LdataCode::Con,
-        error: !is_confirmed,
-        ..frame
     }
 }

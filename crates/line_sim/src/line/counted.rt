@@ -9,9 +9,9 @@ ghost use Rattle.line_model.specs.Owed.{passes_again};
 ghost use Rattle.line_model.specs.Tunnel.{IsOpen, Mode, Commissions, Serves};
 ghost use Rattle.line_model.specs.World.{World, Up, Down};
 ghost use Rattle.line_sim.specs.Allowed.{Allows};
-ghost use Rattle.line_sim.specs.Gateways.{CanCount, greatest_count};
+ghost use Rattle.tunnel_sim.specs.Gateways.{CanCount, greatest_count};
 ghost use Rattle.line_sim.specs.Line.{AreCounted, IsNow, last_at};
-ghost use Rattle.line_sim.specs.Tunnels.{greatest_endpoint};
+ghost use Rattle.tunnel_sim.specs.Tunnels.{greatest_endpoint};
 ghost use Rattle.network_sim.specs.Window.{capped, CanTell, IsAlikeToScripts, IsDeliverable, age_while_kept, window_of};
 ghost use Rattle.network_sim.specs.Arriving.{MayCome, passes};
 

@@ -7,15 +7,15 @@ ghost use Rattle.line_model.specs.Fresh.{HasNothingToSend, Settled, SettledFor};
 ghost use Rattle.line_model.specs.Gateway.{gateway_expired};
 ghost use Rattle.line_model.specs.Tunnel.{Mode, Commissions};
 ghost use Rattle.line_model.specs.World.{World, now};
-ghost use Rattle.line_sim.specs.Gateways.{due_of};
+ghost use Rattle.tunnel_sim.specs.Gateways.{due_of};
 ghost use Rattle.line_sim.specs.Line.{IsNow};
 ghost use Rattle.line_sim.specs.Due.{IsSettledWithin};
 ghost use Rattle.line_sim.specs.Places.{IsDue, sending_at};
 
 use super::Line;
-use crate::gateway::Due;
 use knx_model::{Sending, nearer};
 use network_sim::Reach;
+use tunnel_sim::Due;
 
 impl Line {
     /// What a device sends next; None exactly where it has nothing to send, or isn't there.
@@ -67,29 +67,17 @@ impl Line {
     fn is_settled_within(&self, reach: Reach) -> bool
         ensures { (w : World) → IsNow self.now w → (IsTrue result ↔ IsSettledWithin reach w) }
     {
-        let is_over = both(
-            self.tunnel
-                .up
-                .is_over(Reach::Every, self.tunnel.gateway.made),
-            self.tunnel.down.is_over(reach, self.tunnel.gateway.made),
-        );
-        let is_silent = both(self.frame_due().is_none(), self.has_nothing_to_send());
-        both(is_over, is_silent)
+        let made = self.tunnel.gateway.made;
+        let is_over = self.tunnel.up.is_over(Reach::Every, made)
+            & self.tunnel.down.is_over(reach, made);
+        let is_silent = self.frame_due().is_none() & self.has_nothing_to_send();
+        is_over & is_silent
     }
 
     /// Whether neither a device nor the gateway has something to send now.
     pub fn has_nothing_to_send(&self) -> bool
         ensures { (w : World) → IsNow self.now w → (IsTrue result ↔ HasNothingToSend w (now w)) }
     {
-        both(
-            self.next_sender().is_none(),
-            self.gateway_due() == Due::Nothing,
-        )
+        self.next_sender().is_none() & (self.gateway_due() == Due::Nothing)
     }
-}
-
-fn both(one: bool, other: bool) -> bool
-    ensures { result ≡ (one && other) }
-{
-    one && other
 }

@@ -6,10 +6,10 @@ ghost use Rattle.line_model.specs.Gateway.{gateway_expired};
 ghost use Rattle.line_model.specs.Network.{OfSent};
 ghost use Rattle.line_model.specs.Tunnel.{fresh};
 ghost use Rattle.line_model.specs.World.{World, Devices as Known, Send, From, Renew, Up, UpRefused, Down, LoseUp, LoseDown, GwAgain, GwRepeat, GwClose, Pass, step};
-ghost use Rattle.line_sim.specs.Gateways.{CanCount, due_of, greatest_count};
+ghost use Rattle.tunnel_sim.specs.Gateways.{CanCount, due_of, greatest_count};
 ghost use Rattle.line_sim.specs.Line.{IsNow};
 ghost use Rattle.line_sim.specs.Places.{AreDevices};
-ghost use Rattle.line_sim.specs.Tunnels.{greatest_endpoint};
+ghost use Rattle.tunnel_sim.specs.Tunnels.{greatest_endpoint};
 ghost use Rattle.network_sim.specs.Window.{IsDeliverable};
 
 mod asked;
@@ -18,11 +18,10 @@ mod counted;
 mod due;
 
 use crate::devices::Devices;
-use crate::gateway::Due;
-use crate::tunnel::{AtGateway, Tunnel};
 use knx_model::{Datagram, IndAddr, Ldata, NoMemory};
 use std::alloc::Global;
 use std::marker::Model;
+use tunnel_sim::{AtGateway, Due, Tunnel};
 
 /// The line: the tunnel, the devices, and the bus's last frame where a device sent it.
 #[derive(Drop)]
@@ -37,7 +36,7 @@ impl Model for Line {
 
     ghost Value = { LineNow };
 
-    ghost use Rattle.line_sim.specs.Tunnels.{tunnel_now};
+    ghost use Rattle.tunnel_sim.specs.Tunnels.{tunnel_now};
 
     ghost view = { λ l. record { tunnel = tunnel_now l.tunnel; devices = l.devices; echo = l.echo } };
 }

@@ -11,14 +11,14 @@ ghost use Rattle.std.specs.Prelude.{◌≡◌, ◌++◌, OnOk, IfOk, if◌then�
 ghost use Rattle.call_words.specs.Printed.{is_told_alone, run_lines, line_report_text};
 
 use self::device::put_devices;
-use self::fault::{is_told_alone, put_fault};
+use self::fault::is_told_alone;
 use self::job::put_jobs;
 use self::log::put_log;
 use self::telegram::{put_all_heard, put_turns};
 use crate::words::put_count;
 use call_words::JobWord;
 pub use device::DeviceShown;
-pub use fault::line_status;
+pub use fault::{line_status, put_fault};
 use knx_model::{NoMemory, Octets};
 use line_model::Report;
 use std::alloc::Global;

@@ -1,7 +1,7 @@
 //! What is told of a run.
 
 ghost use Rattle.std.specs.Prelude.{◌≡◌, ℕ, None, IfSome, List};
-ghost use Rattle.hub_core.specs.Commissioned.{TellsRun};
+ghost use Rattle.hub_core.specs.Commissioned.{TellsRun, log_of};
 ghost use Rattle.hub_core.specs.Left.{AllDone};
 ghost use Rattle.hub_core.specs.Promises.{LeavesOver};
 ghost use Rattle.hub_core.specs.Seen.{tasks_seen};
@@ -40,6 +40,7 @@ impl<L: Link> Ending<L> {
         requires cause { IfSome broken_off (HasEndedSo self.hub.fault) }
         requires leaves { (all : List Job) → AreJobsOf self.hub.devices all → LeavesOver all self.hub.turns (L.story self.hub.link) self.hub.log }
         ensures link { result.0 ≡ self.hub.link }
+        ensures log { log_of result.1 ≡ self.hub.log }
         ensures tells { (workers : ℕ) → IsOfWorkers workers self.hub.log → TellsRun workers (tasks_seen self.hub.jobs) self.hub.devices self.hub.turns (L.story result.0) (L.place result.0) result.1 }
         ensures caused { (before : ℕ) → CausedSince before self.hub.fault (L.faults self.hub.link) → CausedSince before result.1.fault (L.faults result.0) }
     {

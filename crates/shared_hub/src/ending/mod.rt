@@ -4,7 +4,7 @@ mod close;
 mod closing;
 
 ghost use Rattle.std.specs.Prelude.{◌≡◌, ℕ, IfSome, None};
-ghost use Rattle.hub_core.specs.Commissioned.{TellsRun};
+ghost use Rattle.hub_core.specs.Commissioned.{TellsRun, log_of};
 ghost use Rattle.hub_core.specs.Heard.{HeardIn};
 ghost use Rattle.hub_core.specs.Left.{AllDone};
 ghost use Rattle.hub_core.specs.Seats.{IsOfWorkers};
@@ -37,6 +37,7 @@ impl<L: Link> Ending<L> {
         requires cause { IfSome ended (HasEndedSo self.hub.fault) }
         ensures grows { GoesOn (L.story self.hub.link) (L.story result.0) }
         ensures script { L.script result.0 ≡ L.script self.hub.link }
+        ensures log { log_of result.1 ≡ self.hub.log }
         ensures tells { (workers : ℕ) → IsOfWorkers workers self.hub.log → TellsRun workers (tasks_seen self.hub.jobs) self.hub.devices self.hub.turns (L.story result.0) (L.place result.0) result.1 }
         ensures caused { (before : ℕ) → CausedSince before self.hub.fault (L.faults self.hub.link) → CausedSince before result.1.fault (L.faults result.0) }
     {

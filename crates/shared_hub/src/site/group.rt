@@ -9,10 +9,10 @@ ghost use Rattle.shared_hub.specs.Steps.{GoesOn, Steps, step_of_group};
 use super::{Site, Step};
 use crate::relay::Relay;
 use hub_core::GroupDid;
-use line_model::Link;
+use line_model::{Link, Watcher};
 use std::sync::Wait;
 
-impl<L: Link> Site<L> {
+impl<L: Link, W: Watcher> Site<L, W> {
     /// A turn of the group thread: the next telegram's next step and, where it has to wait and no worker has something to do, a poll; nothing where all telegrams
     /// are told.
     pub fn tell<R: Wait>(&mut self, rt: &R, relay: &Relay) -> Step
@@ -40,7 +40,9 @@ impl<L: Link> Site<L> {
         let Ok(did) = self.hub.send_group(k) else {
             return Step::Failed;
         };
-        step_of(did)
+        let came = step_of(did);
+        self.watching.tell_entry(&self.hub, came);
+        came
     }
 }
 

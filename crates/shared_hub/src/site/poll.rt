@@ -7,10 +7,10 @@ ghost use Rattle.shared_hub.specs.Steps.{GoesOn, IsOn, OrPolls, Polls};
 use super::{Site, Step};
 use crate::relay::Relay;
 use hub_core::Pumped;
-use line_model::Link;
+use line_model::{Link, Watcher};
 use std::sync::Wait;
 
-impl<L: Link> Site<L> {
+impl<L: Link, W: Watcher> Site<L, W> {
     /// What a call of the hub came to and, where it could do nothing and no worker has something to do, a poll.
     pub(super) fn or_polls<R: Wait>(&mut self, rt: &R, relay: &Relay, came: Step) -> Step
         requires on { GoesOn came self.old.hub }

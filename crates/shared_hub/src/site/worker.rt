@@ -8,13 +8,13 @@ ghost use Rattle.shared_hub.specs.Steps.{GoesOn, IsOn, Steps, step_of};
 use super::{Site, Step};
 use crate::relay::Relay;
 use hub_core::Turned;
-use line_model::Link;
+use line_model::{Link, Watcher};
 use std::sync::Wait;
 
 /// So many calls of the hub one turn makes at most, so that each who waits for a turn gets it soon.
 const CALLS: u32 = 64;
 
-impl<L: Link> Site<L> {
+impl<L: Link, W: Watcher> Site<L, W> {
     /// A worker's turn, from 1: he goes on as long as each call of the hub does something and no job is taken or ends, at most for so many calls; none is made
     /// where all is over.
     pub fn step<R: Wait>(&mut self, rt: &R, relay: &Relay, worker: u8) -> Step
@@ -64,7 +64,10 @@ impl<L: Link> Site<L> {
         let Ok(turned) = self.hub.turn(worker) else {
             return Step::Failed;
         };
-        step_of(turned)
+        let came = step_of(turned);
+        self.watching.tell_entry(&self.hub, came);
+        self.watching.tell_progress(&self.hub, worker);
+        came
     }
 }
 

@@ -3,8 +3,8 @@
 ghost use Rattle.std.specs.Prelude.{◌≡◌, ◌⊎◌, ◌+◌, ◌<◌, ◌≤◌, ℕ, IfSome, slice_get};
 ghost use Rattle.line_model.specs.Deliveries.{next_up, next_down};
 ghost use Rattle.line_model.specs.Gateway.{gateway_expired, Nothing};
-ghost use Rattle.line_model.specs.Network.{OfSent};
-ghost use Rattle.line_model.specs.Tunnel.{Tunnel as Known, Commissions, Up, Down, MayHappen};
+ghost use Rattle.line_model.specs.Network.{MayArrive, MayReach, OfSent};
+ghost use Rattle.line_model.specs.Tunnel.{Tunnel as Known, Commissions, Serves, Up, Down, MayHappen};
 ghost use Rattle.line_model.specs.World.{World};
 ghost use Rattle.network_sim.specs.Window.{IsDeliverable};
 ghost use Rattle.tunnel_sim.specs.Tunnels.{IsTunnel, tunnel_now};
@@ -17,6 +17,7 @@ impl Tunnel {
     pub fn next_up(&self) -> Option<usize>
         ensures value { (w : World) → IsTunnel (tunnel_now self.now) w.tunnel → result ≡ next_up w }
         ensures deliverable { IfSome result (λ age. OfSent IsDeliverable (slice_get self.now.up.kept age)) }
+        ensures comes { IfSome result (λ age. MayArrive self.now.gateway.made self.now.up.kept age) }
         ensures may { IfSome result (λ age. (t : Known) → IsTunnel (tunnel_now self.now) t → MayHappen Commissions t (Up age)) }
     {
         network_sim::laws::the_youngest_are_enough();
@@ -27,10 +28,21 @@ impl Tunnel {
     pub fn next_down(&self) -> Option<usize>
         ensures value { (w : World) → IsTunnel (tunnel_now self.now) w.tunnel → result ≡ next_down Commissions w }
         ensures deliverable { IfSome result (λ age. OfSent IsDeliverable (slice_get self.now.down.kept age)) }
+        ensures comes { IfSome result (λ age. MayReach self.now.present self.now.gateway.made self.now.down.kept age) }
         ensures may { IfSome result (λ age. (t : Known) → IsTunnel (tunnel_now self.now) t → MayHappen Commissions t (Down age)) }
     {
         network_sim::laws::the_youngest_are_enough();
         self.down.next(Reach::To(self.present), self.gateway.made)
+    }
+
+    /// The age of the datagram of a serving gateway that goes next, to whichever of its clients.
+    pub fn next_served(&self) -> Option<usize>
+        ensures value { (w : World) → IsTunnel (tunnel_now self.now) w.tunnel → result ≡ next_down Serves w }
+        ensures deliverable { IfSome result (λ age. OfSent IsDeliverable (slice_get self.now.down.kept age)) }
+        ensures comes { IfSome result (λ age. MayArrive self.now.gateway.made self.now.down.kept age) }
+    {
+        network_sim::laws::the_youngest_are_enough();
+        self.down.next(Reach::Every, self.gateway.made)
     }
 
     /// How long nothing becomes due at the gateway, where nothing is now: so many milliseconds at most, and at least one of them.

@@ -17,6 +17,9 @@ use network_sim::Sendings;
 pub use sending::AtGateway;
 use std::alloc::Global;
 
+/// The tunnel's address where none is given: 1.1.255.
+pub const DEFAULT_TUNNEL: IndAddr = IndAddr { raw: 0x11FF };
+
 /// A tunnel: the client's present endpoint, the datagrams of the client and those of the gateway, the gateway, and the time in milliseconds.
 #[derive(Drop)]
 pub struct Tunnel {

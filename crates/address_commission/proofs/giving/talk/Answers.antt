@@ -1,7 +1,8 @@
-use Rattle.std.proofs.Common.{subst, sym}
+use Rattle.std.proofs.Common.{arith, subst, sym}
 use Rattle.tunnel_link.specs.Rights.{WhereTold}
 use Rattle.address_commission.specs.Ends.{EndsSo}
 use Rattle.address_commission.proofs.Calls.{handed_on}
+use Rattle.address_commission.proofs.Closing.{closing_fails, left_so, rose_from}
 use Rattle.address_commission.proofs.Ends.{answered_ends, new_listens, open_begins}
 use Rattle.address_commission.proofs.giving.talk.Goals as goal
 
@@ -23,3 +24,12 @@ returns-in_err-assigned-clause-ends g c =
 
 pub returns-clause-ends : goal.returns-clause-ends
 returns-clause-ends g c = answered_ends c.args.wanted c.in_ok-assigned.assigned _ _ c.in_ok-assigned.ensures.gives (c.close.ensures.closes c.args.wanted)
+
+pub returns-in_err-close-clause-ends : goal.returns-in_err-close-clause-ends
+returns-in_err-close-clause-ends g c =
+    subst (λ r. WhereTold (EndsSo c.args.wanted r) (g.L.Link.story c.close.new.tunnel.link)) (sym (handed_on c.from_residual-in_err-close.result _ c.from_residual-in_err-close.ensures))
+    (closing_fails c.args.wanted c.in_ok-assigned.assigned _ _ _ c.in_ok-assigned.ensures.gives (c.in_err-close.ensures.closes c.args.wanted) c.in_err-close.ensures.fails)
+
+pub returns-clause-leaves : goal.returns-clause-leaves
+returns-clause-leaves g c = λ still.
+    left_so c.args.wanted c.in_ok-assigned.assigned _ _ c.in_ok-assigned.ensures.gives (c.in_ok-close.ensures.leaves (λ rose. still (rose_from _ _ _ (omega (arith, c.open.ensures.count, c.give.ensures.count)) rose)))

@@ -82,8 +82,20 @@ returns-in-Ok-clause-decode g c = rw (c.in-Ok.is, ← c.as_slice.ensures.value, 
 pub returns-in-Ok-clause-sim : goal.returns-in-Ok-clause-sim
 returns-in-Ok-clause-sim g c = rw (c.in-Ok.is, ← c.as_slice.ensures.value, told c.knx.result c.number.result c.number.ensures) c.knx.ensures.sim
 
+pub returns-in-Ok-clause-assign : goal.returns-in-Ok-clause-assign
+returns-in-Ok-clause-assign g c = rw (c.in-Ok.is, ← c.as_slice.ensures.value, told c.knx.result c.number.result c.number.ensures) c.knx.ensures.assign
+
+pub returns-in-Ok-clause-assign_sim : goal.returns-in-Ok-clause-assign_sim
+returns-in-Ok-clause-assign_sim g c = rw (c.in-Ok.is, ← c.as_slice.ensures.value, told c.knx.result c.number.result c.number.ensures) c.knx.ensures.assign_sim
+
+pub returns-in-Ok-clause-units : goal.returns-in-Ok-clause-units
+returns-in-Ok-clause-units g c = rw (c.in-Ok.is, ← c.as_slice.ensures.value) c.knx.ensures.units
+
 pub returns-in-Ok-clause-big : goal.returns-in-Ok-clause-big
 returns-in-Ok-clause-big g c = rw (c.in-Ok.is, ← c.as_slice.ensures.value, told c.knx.result c.number.result c.number.ensures) c.knx.ensures.big
 
 pub returns-in-Ok-clause-numbered : goal.returns-in-Ok-clause-numbered
 returns-in-Ok-clause-numbered g c = numbered c.knx.result c.number.result c.number.ensures
+
+pub returns-in-Ok-clause-watched : goal.returns-in-Ok-clause-watched
+returns-in-Ok-clause-watched g c = rw (c.in-Ok.is, ← c.as_slice.ensures.value) c.knx.ensures.watched

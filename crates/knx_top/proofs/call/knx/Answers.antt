@@ -1,9 +1,12 @@
 use Rattle.knx_top.specs.Headline.{BeganRightly, HasOldStoppedOrNew, HasTelegramsRight, RunsWhereDone, ActsOnce, IsToldRightly, EndsThoroughly, HasLostNoTime, LeavesItsChannel, HasFaultRight, EndsEveryJob, ClosesToItsEnd, IsOfItsWorkers}
-use Rattle.knx_top.proofs.Calls.{usage_of, check_of, tables_of, decode_of, sim_of, big_of, link_of, download_of, gateway_of, find_of, line_of, no_run_of, faults_in, ran_of, ran_told_of}
+use Rattle.knx_top.proofs.Calls.{usage_of, check_of, tables_of, decode_of, sim_of, big_of, link_of, download_of, gateway_of, find_of, assign_of, assign_sim_of, line_of, no_run_of, faults_in, ran_of, ran_told_of}
 use Rattle.knx_top.proofs.Promised as promised
 use Rattle.knx_top.proofs.Undisturbed.{Laws, ends_undisturbed}
 use Rattle.knx_top.proofs.Statuses.{AnswersWith, answers_with}
 use Rattle.knx_top.specs.Undisturbed.{EndsUndisturbed}
+use Rattle.knx_top.proofs.Watches.{watches_of}
+use Rattle.line_model.specs.Watched.{watch_in}
+use Rattle.std.proofs.Common.{ap}
 use Rattle.knx_top.proofs.call.knx.Goals as goal
 
 pub returns-clause-usage : goal.returns-clause-usage
@@ -32,6 +35,12 @@ returns-clause-gateway g c = λ names. gateway_of _ _ _ _ names c.answer.ensures
 
 pub returns-clause-find : goal.returns-clause-find
 returns-clause-find g c = λ names. find_of _ _ _ _ names c.answer.ensures.does
+
+pub returns-clause-assign : goal.returns-clause-assign
+returns-clause-assign g c = λ names. assign_of _ _ _ _ names c.answer.ensures.does
+
+pub returns-clause-assign_sim : goal.returns-clause-assign_sim
+returns-clause-assign_sim g c = λ names. assign_sim_of _ _ _ _ names c.answer.ensures.does
 
 pub returns-clause-big : goal.returns-clause-big
 returns-clause-big g c = λ names. big_of _ _ _ _ names c.answer.ensures.does
@@ -97,3 +106,6 @@ returns-clause-closed g c = ran_of ClosesToItsEnd promised.closes_to_its_end _ _
 
 pub returns-clause-seats : goal.returns-clause-seats
 returns-clause-seats g c = ran_of IsOfItsWorkers promised.of_its_workers _ _ _ _ c.answer.ensures.does
+
+pub returns-clause-watched : goal.returns-clause-watched
+returns-clause-watched g c = watches_of _ _ _ _ (no_run_of _ _ _ _ c.answer.ensures.does) (λ none. ap (watch_in g.W.Watcher.watch) (c.answer.ensures.unwatched none)) c.answer.ensures.watched

@@ -1,4 +1,5 @@
 use Rattle.knx_top.proofs.Completeness.{complete, decoded}
+use Rattle.knx_top.proofs.DialsTold.{download_is_told, gateway_is_told}
 use Rattle.knx_top.proofs.RunsTold.{made_told, script_told}
 use Rattle.knx_top.specs.commands.Check.{IsCountsText}
 use Rattle.knx_top.specs.commands.Tables.{IsTablesText}
@@ -18,3 +19,9 @@ returns-clause-sim c = λ words files files' before after out out' ending valid 
 
 pub returns-clause-big : goal.returns-clause-big
 returns-clause-big c = made_told
+
+pub returns-clause-download : goal.returns-clause-download
+returns-clause-download c = λ words files files' before after report out out' ending valid still t. download_is_told words files files' before after report out out' ending valid still t
+
+pub returns-clause-gateway : goal.returns-clause-gateway
+returns-clause-gateway c = λ words files files' before after line line' out out' ending valid still t. gateway_is_told words files files' before after line line' out out' ending valid still t

@@ -1,10 +1,12 @@
-//! `sim NEW OLD SCRIPT [catalogue=F] [log] [workers=N]` and jobs: a run over the simulated line.
+//! `sim NEW OLD SCRIPT [catalogue=F] [log] [quiet] [workers=N]` and jobs: a run over the simulated line.
 
 ghost use Rattle.std.specs.Prelude.{◌≡◌, ◌≤◌, ◌+◌, ℕ, List, length, map, string_bytes};
 ghost use Rattle.std.specs.Option.{option_map};
 ghost use Rattle.knx_top.specs.Ending.{Is, report_in};
 ghost use Rattle.knx_top.specs.Input.{OnlyRose};
 ghost use Rattle.knx_top.specs.Ran.{FaultsOfLine};
+ghost use Rattle.knx_top.specs.Watched.{TellsWatcher};
+ghost use Rattle.line_model.specs.Watched.{watch_in};
 ghost use Rattle.knx_top.specs.commands.Sim.{RunsScript, SimIsRead, failed_of_sim, files_of_sim, sim_words, sim_words_of};
 
 pub mod judge;
@@ -16,7 +18,7 @@ use crate::input::{Reading, read_after, read_named};
 use crate::options::{SimOptions, sim_options};
 use bus_sim::SimBus;
 use knx_model::Files;
-use line_model::Gate;
+use line_model::{Gate, Watcher};
 use std::alloc::Global;
 use std::sync::Wait;
 use std::thread::Threads;
@@ -75,19 +77,21 @@ fn read_sim_texts<F: Files>(alloc: Global, files: &mut F, names: &SimNames<'_>) 
 }
 
 /// A call of `sim`.
-pub fn call<R: Threads + Wait + Sync, F: Files, G: Gate + Sync>(
+pub fn call<R: Threads + Wait + Sync, F: Files, G: Gate + Sync, W: Watcher + Send>(
     rt: &R,
     alloc: Global,
     names: &SimNames<'_>,
     files: &mut F,
     sim: &mut SimBus,
     gate: &G,
+    watch: &mut Option<W>,
 ) -> End
     ensures told { RunsScript (sim_words_of names.now) (F.now files.old) (F.now files.new) sim.old (record { line = sim.new; report = report_in result }) (Is result) }
     ensures link { FaultsOfLine (report_in result) sim.new }
+    ensures watched { TellsWatcher names.now.options.quiet (report_in result) (watch_in W.watch watch.old) (watch_in W.watch watch.new) }
     ensures stays { (other : List ℕ) → (F.now files.new).file other ≡ (F.now files.old).file other }
     ensures reads { (F.now files.new).reads ≤ (F.now files.old).reads + length (files_of_sim (sim_words_of names.now)) }
 {
     let texts = read_sim_texts(alloc, files, names);
-    commission(rt, alloc, names, &texts, sim, gate)
+    commission(rt, alloc, names, &texts, sim, gate, watch)
 }

@@ -13,6 +13,8 @@ ghost use Rattle.knx_top.specs.Ending.{report_in};
 ghost use Rattle.knx_top.specs.Jobs.{seen_job};
 ghost use Rattle.knx_top.specs.Names.{options_of};
 ghost use Rattle.knx_top.specs.Ran.{Commission, FaultsOfLine, HasThreeTries};
+ghost use Rattle.knx_top.specs.Watched.{TellsWatcher};
+ghost use Rattle.line_model.specs.Watched.{watch_in};
 ghost use Rattle.knx_top.specs.commands.Sim.{Comes, Runs, ShowsRun, judged, sim_words_of};
 
 use crate::commands::sim::judge::{Order, judge};
@@ -20,11 +22,11 @@ use crate::commands::sim::{SimNames, SimTexts};
 use crate::ending::{End, Reported};
 use crate::options::SimOptions;
 use crate::shown::all_shown;
+use crate::watched::{Run, commission as commission_line};
 use bus_sim::SimBus;
 use call_words::JobWord;
 use knx_model::{Image, IndAddr, List};
-use line_model::{Gate, Report};
-use shared_hub::commission as commission_line;
+use line_model::{Gate, Report, Watcher};
 use std::alloc::Global;
 use std::sync::Wait;
 use std::thread::Threads;
@@ -56,13 +58,14 @@ fn end_of_run(
 }
 
 /// Goes through the jobs over the line, which is then the one that was run, whether the run ended or memory was wanting on the way.
-pub fn run<R: Threads + Wait + Sync, G: Gate + Sync>(
+pub fn run<R: Threads + Wait + Sync, G: Gate + Sync, W: Watcher + Send>(
     rt: &R,
     alloc: Global,
     order: Order,
     options: &SimOptions<'_>,
     sim: &mut SimBus,
     gate: &G,
+    watch: &mut Option<W>,
 ) -> End
     requires one { order.line.run.begun.clients ≡ One }
     requires new { order.line.run.events ≡ [] }
@@ -74,6 +77,7 @@ pub fn run<R: Threads + Wait + Sync, G: Gate + Sync>(
     requires devices { All (λ (d : Address × Option Compiled). IsSome ((world order.line.run).devices d.0.raw)) order.devices }
     ensures runs { (c : Commission) → IsOrder c order → c.options ≡ options_of options.now → Runs c sim.old sim.new result }
     ensures link { FaultsOfLine (report_in result) sim.new }
+    ensures watched { TellsWatcher options.now.quiet (report_in result) (watch_in W.watch watch.old) (watch_in W.watch watch.new) }
 {
     let Order {
         line,
@@ -84,8 +88,14 @@ pub fn run<R: Threads + Wait + Sync, G: Gate + Sync>(
     } = order;
     line.keeps();
     let turn_count = turns.len() as u32;
-    let workers = options.workers().count();
-    let (line, report) = commission_line(rt, alloc, plans, turns, line, workers, gate);
+    let run = Run {
+        jobs: plans,
+        groups: turns,
+        link: line,
+        workers: options.workers().count(),
+        quiet: options.quiet,
+    };
+    let (line, report) = commission_line(rt, alloc, run, gate, watch);
     line.keeps();
     *sim = line;
     end_of_run(
@@ -100,19 +110,21 @@ pub fn run<R: Threads + Wait + Sync, G: Gate + Sync>(
 }
 
 /// Judges what was read and runs what it asks for.
-pub fn commission<R: Threads + Wait + Sync, G: Gate + Sync>(
+pub fn commission<R: Threads + Wait + Sync, G: Gate + Sync, W: Watcher + Send>(
     rt: &R,
     alloc: Global,
     names: &SimNames<'_>,
     texts: &SimTexts,
     sim: &mut SimBus,
     gate: &G,
+    watch: &mut Option<W>,
 ) -> End
     ensures comes { Comes (judged (sim_words_of names.now) texts.now) sim.old sim.new result }
     ensures link { FaultsOfLine (report_in result) sim.new }
+    ensures watched { TellsWatcher names.now.options.quiet (report_in result) (watch_in W.watch watch.old) (watch_in W.watch watch.new) }
 {
     match judge(rt, alloc, names, texts) {
-        Ok(order) => run(rt, alloc, order, &names.options, sim, gate),
+        Ok(order) => run(rt, alloc, order, &names.options, sim, gate, watch),
         Err(why) => End::Stops(why),
     }
 }

@@ -10,10 +10,10 @@ use Rattle.shared_hub.proofs.Works.{all_later, leads_fewer, was_later}
 use Rattle.shared_hub.proofs.crew.all_done.Goals as goal
 
 pub join-last-requires-send-F : goal.join-last-requires-send-F
-join-last-requires-send-F g c κs within = group_send (param 0 g.row.R) (param 1 g.row.L) g.L.Link c.type_bounds.sync-R c.type_bounds.send-L _ _ _ _ _ _ _ _
+join-last-requires-send-F g c κs within = group_send (param 0 g.row.R) (param 1 g.row.L) (param 2 g.row.W) g.L.Link g.W.Watcher c.type_bounds.sync-R c.type_bounds.send-L c.type_bounds.send-W _ _ _ _ _ _ _ _
 
 pub join-last-requires-send-A : goal.join-last-requires-send-A
-join-last-requires-send-A g c κs within = both_send (param 1 g.row.L) g.L.Link c.type_bounds.send-L _ _
+join-last-requires-send-A g c κs within = both_send (param 1 g.row.L) (param 2 g.row.W) g.L.Link g.W.Watcher c.type_bounds.send-L c.type_bounds.send-W _ _
 
 pub join-last-requires-after_bounds : goal.join-last-requires-after_bounds
 join-last-requires-after_bounds g c κs within =
@@ -33,7 +33,7 @@ join-last-requires-after_bounds g c κs within =
           omega (arith, few, whole, parts),
           subst (λ s. Leads c.args.workers c.args.relay.now s.seen) (sym same) c.requires.leads,
         ),
-        (param_send _ _ (arg_send _ no _ c.type_bounds.send-L), sync-R, sync-G),
+        (param_send _ _ (arg_send _ no _ c.type_bounds.send-L), param_send _ _ (arg_send _ no _ c.type_bounds.send-W), sync-R, sync-G),
       ),
     )
 

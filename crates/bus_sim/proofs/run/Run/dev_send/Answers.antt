@@ -1,6 +1,6 @@
 use Rattle.std.proofs.Common.{[], ◌∷◌, refl, subst, sym}
 use Rattle.line_model.specs.World.{AtGateway, DevSend}
-use Rattle.line_sim.specs.Tunnels.{at_gateway}
+use Rattle.tunnel_sim.specs.Tunnels.{at_gateway}
 use Rattle.bus_sim.specs.Begun.{start_of}
 use Rattle.bus_sim.specs.Counted.{CountsNow, AreCounts}
 use Rattle.bus_sim.specs.Went.{IsRight}

@@ -1,8 +1,8 @@
 use Rattle.std.proofs.Common.{◌≡◌, [], refl, subst, sym, ◌∙◌}
 use Rattle.line_model.specs.Gateway.{gateway_expired}
 use Rattle.line_model.specs.World.{GwRepeat, now, replay}
-use Rattle.line_sim.specs.Gateways.{due_of}
-use Rattle.line_sim.specs.declared.gateway.Due.TheVariants.{Repeat}
+use Rattle.tunnel_sim.specs.Gateways.{due_of}
+use Rattle.tunnel_sim.specs.declared.gateway.Due.TheVariants.{Repeat}
 use Rattle.bus_sim.specs.Begun.{start_of}
 use Rattle.bus_sim.specs.RunNow.{RunState}
 use Rattle.bus_sim.specs.Went.{IsRight, world}

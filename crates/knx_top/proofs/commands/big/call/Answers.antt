@@ -1,4 +1,9 @@
-use Rattle.std.proofs.Common.{[], refl, sym}
+use Rattle.std.proofs.Common.{Bool, [], refl, sym, ap, subst}
+use Rattle.line_model.specs.Watched.{watch_in}
+use Rattle.knx_top.specs.Ending.{report_in}
+use Rattle.knx_top.specs.Options.{SimOptions}
+use Rattle.knx_top.specs.Watched.{TellsWatcher}
+use Rattle.knx_top.proofs.Watches.{tells_summed}
 use Rattle.knx_model.specs.Counts.{counts_of}
 use Rattle.knx_top.proofs.Present.{devices_there}
 use Rattle.knx_top.proofs.commands.Bigs.{order_made, runs_made, stops_wanting}
@@ -22,3 +27,7 @@ returns-in-Err-clause-told g c =
     let words = c.args.numbers.now in
     runs_made words c.args.sim.now _ (counts_of (made words)) (Stops c.in-Err.why) (Stops c.in-Err.why) refl refl
     (stops_wanting words c.in-Err.why c.args.sim.now (c.each_project_is_checked.ensures.checked words.devices words.start [] c.judge.ensures.few).sound c.in-Err.ensures.err) refl
+
+pub returns-in-Ok-clause-watched : goal.returns-in-Ok-clause-watched
+returns-in-Ok-clause-watched g c =
+    tells_summed _ _ c.in-Ok.counts c.run-end.result c.summed.result c.summed.ensures (subst (λ (quiet : Bool). TellsWatcher quiet (report_in c.run-end.result) (watch_in g.W.Watcher.watch c.args.watch.now) (watch_in g.W.Watcher.watch c.run-end.new.watch)) (ap (λ (o : SimOptions). o.quiet) c.none.ensures) c.run-end.ensures.watched)

@@ -6,4 +6,4 @@ use Rattle.knx_top.proofs.commands.download.call.Goals as goal
 pub returns-clause-told : goal.returns-clause-told
 returns-clause-told g c =
     runs_dialled (download_words_of c.args.names.now) (project_words_of c.project.result) _ _ _ _ c.read_project_texts-texts.result c.download.result
-    c.project.ensures c.read_project_texts-texts.ensures.read c.read_project_texts-texts.ensures.counts c.download.ensures
+    c.project.ensures c.read_project_texts-texts.ensures.read c.read_project_texts-texts.ensures.counts c.download.ensures.dials

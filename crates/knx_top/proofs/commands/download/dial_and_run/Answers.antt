@@ -3,12 +3,12 @@ use Rattle.knx_top.specs.Names.{address_of, options_of}
 use Rattle.knx_top.proofs.DialledRuns.{reached, to_address}
 use Rattle.knx_top.proofs.commands.download.dial_and_run.Goals as goal
 
-pub returns-in-Ok : goal.returns-in-Ok
-returns-in-Ok g c = λ d is same options. rw c.new.ensures
-    (reached d c.args.ready (address_of c.args.names.now.at) (options_of c.args.names.now.options) _ _ _ _ c.run-report.result is same options c.in-Ok.ensures.count c.in-Ok.ensures.tells c.run-report.ensures.given (c.run-report.ensures.dials ∙ c.in-Ok.ensures.dials) (rw c.workers.ensures at c.run-report.ensures.told) c.run-report.ensures.cause)
+pub returns-in-Ok-clause-dials : goal.returns-in-Ok-clause-dials
+returns-in-Ok-clause-dials g c = λ d is same options. rw c.new.ensures
+    (reached d c.args.ready (address_of c.args.names.now.at) (options_of c.args.names.now.options) _ _ _ _ c.run-report.result is same options c.in-Ok.ensures.count c.in-Ok.ensures.tells c.run-report.ensures.given (c.run-report.ensures.dials ∙ c.in-Ok.ensures.dials) c.run-report.ensures.told c.run-report.ensures.cause)
 
-pub returns-in-Err : goal.returns-in-Err
-returns-in-Err g c = λ d is same options. record {
+pub returns-in-Err-clause-dials : goal.returns-in-Err-clause-dials
+returns-in-Err-clause-dials g c = λ d is same options. record {
   given = to_address d.at (address_of c.args.names.now.at) _ same c.in-Err.ensures.tells;
   once = c.in-Err.ensures.dials;
   rose = c.in-Err.ensures.failed;

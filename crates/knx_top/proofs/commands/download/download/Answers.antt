@@ -8,8 +8,8 @@ dial_and_run-requires-clause-few g c = λ κs within. of_ready _ _ _ c.in-Ok.ens
 pub dial_and_run-requires-clause-good : goal.dial_and_run-requires-clause-good
 dial_and_run-requires-clause-good g c = λ κs within. of_ready _ _ _ c.in-Ok.ensures.ok (λ d is. is.prepared.good)
 
-pub returns-in-Ok : goal.returns-in-Ok
-returns-in-Ok g c = dialled_run (download_words_of c.args.names.now) c.args.texts.now _ _ _ _ c.in-Ok.ensures.ok c.dial_and_run.ensures
+pub returns-in-Ok-clause-dials : goal.returns-in-Ok-clause-dials
+returns-in-Ok-clause-dials g c = dialled_run (download_words_of c.args.names.now) c.args.texts.now _ _ _ _ c.in-Ok.ensures.ok c.dial_and_run.ensures.dials
 
-pub returns-in-Err : goal.returns-in-Err
-returns-in-Err g c = dialled_stop _ _ _ c.in-Err.ensures.err
+pub returns-in-Err-clause-dials : goal.returns-in-Err-clause-dials
+returns-in-Err-clause-dials g c = dialled_stop _ _ _ c.in-Err.ensures.err

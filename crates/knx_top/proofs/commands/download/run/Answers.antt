@@ -1,9 +1,12 @@
+use Rattle.std.proofs.Common.{◌∙◌}
+use Rattle.knx_top.specs.Names.{options_of}
+use Rattle.knx_top.specs.Options.{workers_of}
 use Rattle.knx_top.proofs.DialledRuns.{caused, told_over}
 use Rattle.knx_top.proofs.commands.download.run.Goals as goal
 
 pub returns-clause-told : goal.returns-clause-told
 returns-clause-told g c = rw c.hang.ensures.told
-    (told_over c.args.workers c.args.plans _ _ _ _ c.commission-line.result.1 c.new.ensures c.requires.new c.commission-line.ensures.grows c.requires.good (rw c.count.ensures.value at c.commission-line.ensures.tells))
+    (told_over (workers_of (options_of c.args.options.now)) c.args.plans _ _ _ _ c.commission-line.result.1 c.new.ensures c.requires.new c.commission-line.ensures.commissioned.grows c.requires.good (rw (c.count.ensures.value ∙ c.workers.ensures) at c.commission-line.ensures.commissioned.tells))
 
 pub returns-clause-cause : goal.returns-clause-cause
-returns-clause-cause g c = caused c.commission-line.result.1 _ _ _ _ c.requires.sound c.commission-line.ensures.cause c.hang.ensures.count
+returns-clause-cause g c = caused c.commission-line.result.1 _ _ _ _ c.requires.sound c.commission-line.ensures.commissioned.cause c.hang.ensures.count

@@ -4,7 +4,7 @@ use Rattle.line_model.specs.Tunnel as tunnel
 use Rattle.line_model.specs.Tunnel.{Carried}
 use Rattle.line_model.specs.World.{World, Bus, step}
 use Rattle.line_sim.specs.Line.{LineNow, IsNow}
-use Rattle.line_sim.specs.Tunnels.{IsTunnel, tunnel_now}
+use Rattle.tunnel_sim.specs.Tunnels.{IsTunnel, tunnel_now}
 use Rattle.line_sim.proofs.Lines.{bus_nothing, bus_carries, roomy}
 use Rattle.line_sim.proofs.line.Line.bus.Goals as goal
 

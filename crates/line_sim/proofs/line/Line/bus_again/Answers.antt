@@ -1,7 +1,7 @@
 use Rattle.std.proofs.Common.{◌≡◌, refl, subst}
 use Rattle.line_model.specs.World.{World, BusAgain, step}
 use Rattle.line_sim.specs.Line.{LineNow, IsNow}
-use Rattle.line_sim.specs.Tunnels.{tunnel_now}
+use Rattle.tunnel_sim.specs.Tunnels.{tunnel_now}
 use Rattle.line_sim.proofs.Lines.{takes_again}
 use Rattle.line_sim.proofs.line.Line.bus_again.Goals as goal
 

@@ -5,7 +5,7 @@ use Rattle.line_model.specs.Tunnel as tunnel
 use Rattle.line_model.specs.Tunnel.{Carried}
 use Rattle.line_model.specs.World.{World, BusTorn, step}
 use Rattle.line_sim.specs.Line.{LineNow, IsNow, effect_due, write_due}
-use Rattle.line_sim.specs.Tunnels.{IsTunnel, tunnel_now}
+use Rattle.tunnel_sim.specs.Tunnels.{IsTunnel, tunnel_now}
 use Rattle.line_sim.proofs.Lines.{torn, roomy}
 use Rattle.line_sim.proofs.line.Line.bus_torn.Goals as goal
 

@@ -1,7 +1,7 @@
 use Rattle.std.proofs.Common.{◌≡◌, refl, ap, subst, ◌∙◌}
 use Rattle.knx_model.specs.Connection.{nearer}
 use Rattle.line_sim.specs.Line.{LineNow}
-use Rattle.line_sim.specs.Tunnels.{tunnel_now}
+use Rattle.tunnel_sim.specs.Tunnels.{tunnel_now}
 use Rattle.line_sim.proofs.Deadlines.{IsDeadline, always_settled, later_than_now, never, not_from_then, settled_until, until}
 use Rattle.line_sim.proofs.line.Line.deadline.Goals as goal
 

@@ -3,7 +3,7 @@ use Rattle.knx_model.specs.declared.frames.cemi.Ldata.{Ldata}
 use Rattle.line_model.specs.Tunnel as tunnel
 use Rattle.line_model.specs.World.{World, DevSend, heard, step}
 use Rattle.line_sim.specs.Line.{LineNow, IsNow}
-use Rattle.line_sim.specs.Tunnels.{IsTunnel, at_gateway, tunnel_now}
+use Rattle.tunnel_sim.specs.Tunnels.{IsTunnel, at_gateway, tunnel_now}
 use Rattle.line_sim.proofs.Lines.{sends_nothing, sends, roomy}
 use Rattle.line_sim.proofs.line.Line.dev_send.Goals as goal
 

@@ -2,7 +2,7 @@ use Rattle.std.proofs.Common.{◌≡◌, ◌↔◌, ℕ, IsTrue, sym, subst}
 use Rattle.network_sim.specs.declared.place.Reach.TheVariants.{To}
 use Rattle.line_sim.specs.Due.{IsSettledWithin}
 use Rattle.line_sim.specs.Line.{LineNow, IsNow}
-use Rattle.line_sim.specs.Tunnels.{tunnel_now}
+use Rattle.tunnel_sim.specs.Tunnels.{tunnel_now}
 use Rattle.line_sim.proofs.Settling.{both_ways, settled_in_run}
 use Rattle.line_sim.proofs.line.Line.is_settled.Goals as goal
 

@@ -1,11 +1,10 @@
-use Rattle.std.proofs.Common.{◌≡◌, ◌&&◌, ◌↔◌, ℕ, Bool, IsTrue, [], rules, sym, subst}
+use Rattle.std.proofs.Common.{◌≡◌, ◌↔◌, ℕ, IsTrue, [], rules, sym, subst}
 use Rattle.line_model.specs.Tunnel.{made}
 use Rattle.network_sim.specs.declared.place.Reach.TheVariants.{Every}
 use Rattle.network_sim.specs.Arriving.{AllOver}
-use Rattle.line_sim.specs.Due.{IsSettledWithin}
 use Rattle.line_sim.specs.Line.{LineNow, IsNow}
-use Rattle.line_sim.specs.Tunnels.{tunnel_now}
-use Rattle.line_sim.proofs.Settling.{bus_free, joined, settled_exactly}
+use Rattle.tunnel_sim.specs.Tunnels.{tunnel_now}
+use Rattle.line_sim.proofs.Settling.{bus_free, settled_exactly}
 use Rattle.line_sim.proofs.line.Line.is_settled_within.Goals as goal
 
 pub returns : goal.returns
@@ -18,6 +17,4 @@ returns c w is =
     let down : IsTrue c.is_over-2.result ↔ AllOver c.args.reach (made w.tunnel) w.tunnel.network.down
     = subst (λ (m : ℕ). IsTrue c.is_over-2.result ↔ AllOver c.args.reach m w.tunnel.network.down) (sym held.tunnel.gateway.made) (c.is_over-2.ensures.simulates w.tunnel.network.down held.tunnel.down) in
     let bus : IsTrue c.is_none.result ↔ (w.tunnel.gateway.bus ≡ []) = bus_free w c.frame_due.result c.is_none.result (c.frame_due.ensures.simulates w is) (search rules) in
-    let whole : c.both.result ≡ ((c.is_over.result && c.is_over-2.result) && (c.is_none.result && c.has_nothing_to_send.result)) = joined c.both.result c.both-is_over.result c.both-is_silent.result c.is_over.result c.is_over-2.result c.is_none.result c.has_nothing_to_send.result c.both.ensures c.both-is_over.ensures c.both-is_silent.ensures in
-    subst (λ (b : Bool). IsTrue b ↔ IsSettledWithin c.args.reach w) (sym whole)
-    (settled_exactly c.args.reach w c.is_over.result c.is_over-2.result c.is_none.result c.has_nothing_to_send.result up down bus (c.has_nothing_to_send.ensures w is))
+    settled_exactly c.args.reach w c.is_over.result c.is_over-2.result c.is_none.result c.has_nothing_to_send.result up down bus (c.has_nothing_to_send.ensures w is)

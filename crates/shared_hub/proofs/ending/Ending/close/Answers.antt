@@ -35,3 +35,6 @@ returns-clause-tells g c = λ workers seats.
 pub returns-clause-caused : goal.returns-clause-caused
 returns-clause-caused g c = λ before was.
     told_caused c.close-link.result.fault c.told_fault.result before _ c.told_fault.ensures.fault (rw (c.close-link.ensures.fault, c.close-link.ensures.link) was)
+
+pub returns-clause-log : goal.returns-clause-log
+returns-clause-log g c = ap reverse c.close-link.ensures.log ∙ reverse-reverse c.args.self.hub.log

@@ -16,7 +16,7 @@ pub returns-then-not-has_work_left : goal.returns-then-not-has_work_left
 returns-then-not-has_work_left g c = (
   refl,
   subst (λ s. HasFinished c.args.worker (items_of s)) c.self.view_is
-      (all_finished c.self.inside.hub c.self.inside.opening.value (length c.self.inside.opening.value.crew) _ c.self.invariant.since.run.devices c.self.invariant.since.run.turns c.keeps.ensures.form c.self.invariant.seats (c.has_work_left.ensures.done c.if-not-has_work_left.true) (items_of (record { hub = c.self.inside.hub; feed = c.self.inside.feed; opening = c.self.inside.opening; relay = c.self.inside.relay })) refl (log_is (record { hub = c.self.inside.hub; feed = c.self.inside.feed; opening = c.self.inside.opening; relay = c.self.inside.relay })) c.args.worker),
+      (all_finished c.self.inside.hub c.self.inside.opening.value (length c.self.inside.opening.value.crew) _ c.self.invariant.0.since.run.devices c.self.invariant.0.since.run.turns c.keeps.ensures.form c.self.invariant.0.seats (c.has_work_left.ensures.done c.if-not-has_work_left.true) (items_of (record { hub = c.self.inside.hub; feed = c.self.inside.feed; watching = c.self.inside.watching; opening = c.self.inside.opening; relay = c.self.inside.relay; watched = c.self.inside.watched })) refl (log_is (record { hub = c.self.inside.hub; feed = c.self.inside.feed; watching = c.self.inside.watching; opening = c.self.inside.opening; relay = c.self.inside.relay; watched = c.self.inside.watched })) c.args.worker),
 )
 
 pub loop-init : goal.loop-init

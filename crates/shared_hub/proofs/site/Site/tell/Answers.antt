@@ -10,7 +10,7 @@ pub returns-then-is_some : goal.returns-then-is_some
 returns-then-is_some g c = failed_so c.args.self.now (ap is_some (ap (λ s. s.hub.fault) (sym c.self.view_is) ∙ sym c.fault.ensures) ∙ (sym c.is_some.ensures ∙ c.if-is_some.true))
 
 pub returns-in_default : goal.returns-in_default
-returns-in_default g c = (refl, subst (λ s. HasTold (items_of s)) c.self.view_is (told_so (record { hub = c.self.inside.hub; feed = c.self.inside.feed; opening = c.self.inside.opening; relay = c.self.inside.relay }) c.self.invariant.since.run.turns (c.next_group.ensures.all c.in_default.is)))
+returns-in_default g c = (refl, subst (λ s. HasTold (items_of s)) c.self.view_is (told_so (record { hub = c.self.inside.hub; feed = c.self.inside.feed; watching = c.self.inside.watching; opening = c.self.inside.opening; relay = c.self.inside.relay; watched = c.self.inside.watched }) c.self.invariant.0.since.run.turns (c.next_group.ensures.all c.in_default.is)))
 
 pub or_polls-requires-clause-of : goal.or_polls-requires-clause-of
 or_polls-requires-clause-of g c = relay_kept HasTold 0 c.args.self.now c.send-came.new.self c.send-came.result c.send-came.ensures.steps ∙ c.requires.of

@@ -4,7 +4,7 @@ use Rattle.line_model.specs.Tunnel.{Commissions, made}
 use Rattle.network_sim.specs.declared.place.Reach.TheVariants.{To}
 use Rattle.network_sim.specs.Arriving.{passes}
 use Rattle.tunnel_sim.specs.Tunnels.{tunnel_now}
-use Rattle.tunnel_sim.proofs.Going.{may_down}
+use Rattle.tunnel_sim.proofs.Going.{may_down, next_comes}
 use Rattle.tunnel_sim.proofs.tunnel.Tunnel.next_down.Goals as goal
 
 pub returns-clause-value : goal.returns-clause-value
@@ -14,3 +14,6 @@ returns-clause-value c w is =
 
 pub returns-clause-may : goal.returns-clause-may
 returns-clause-may c = may_down (tunnel_now c.args.self.now) c.next.result c.next.ensures.simulates
+
+pub returns-clause-comes : goal.returns-clause-comes
+returns-clause-comes c = next_comes (To c.args.self.now.present) c.args.self.now.gateway.made c.args.self.now.down.kept c.next.result c.next.ensures.value

@@ -1,4 +1,0 @@
-use Rattle.address_commission.proofs.frames.request.Goals as goal
-
-pub returns-clause-reads : goal.returns-clause-reads
-returns-clause-reads c = (c.frames_are_read.ensures.frames _ _).1 c.encode.ensures.reads

@@ -1,0 +1,223 @@
+-- `assign`: what it comes to, and what is written of it.
+use Rattle.std.proofs.Common.{◌≡◌, ◌≢◌, ℕ, ◌≤◌, ◌∙◌, ap, true, ◌⊎◌, Option, None, Some, List, [], ◌∷◌, Result, Ok, Err, refl, sym, subst, inl, inr}
+use Rattle.std.specs.Prelude.{IfErr, IfOk}
+use Rattle.address_commission.specs.Ends.{EndsSo, FailsBy, Leaves}
+use Rattle.address_sim.specs.Driven.{BusNow}
+use Rattle.address_sim.specs.Follows.{FollowsText}
+use Rattle.address_sim.specs.Stays.{lines_of}
+use Rattle.address_sim.specs.Told.{Begun, RunNow, start, story, told as told_of}
+use Rattle.address_world.specs.AddressLegal.{IsFresh, IsLegal}
+use Rattle.address_world.specs.AddressStory.{Told}
+use Rattle.address_world.specs.AddressWorld.{AddressEvent, AddressWorld}
+use Rattle.address_world.specs.Keeps.{AlwaysKeepsUnits}
+use Rattle.address_world.specs.declared.unit.UnitLoss.{UnitLoss}
+use Rattle.address_text.specs.UnitText.{unit_reading}
+use Rattle.address_world.specs.declared.unit.Unit.{Unit as BusUnit}
+use Rattle.call_words.specs.declared.input_file.InputFile.TheVariants as file
+use Rattle.call_words.specs.declared.stop.Stop.{Stop}
+use Rattle.call_words.specs.declared.stop.Stop.TheVariants as stop
+use Rattle.knx_model.specs.declared.address.IndAddr.{IndAddr}
+use Rattle.knx_model.specs.Outside.{FilesNow, Rose, one_more}
+use Rattle.line_model.specs.Dialled.{Address, DialerNow, Tells}
+use Rattle.line_model.specs.LinkStory.{Story}
+use Rattle.line_model.specs.Record.{entries}
+use Rattle.line_model.specs.Renews.{AcknowledgesRightly}
+use Rattle.tunnel_link.specs.Rights.{WhereTold}
+use Rattle.knx_top.specs.Ending.{Is, StopsFor, report_in, wanting}
+use Rattle.knx_top.specs.Given.{EndsAs}
+use Rattle.knx_top.specs.Input.{IsRead, OnlyRose, failed, fault_in, first_some, octets_of}
+use Rattle.knx_top.specs.Judged.{read_of, unless_refused}
+use Rattle.knx_top.specs.Stops.{text_refused}
+use Rattle.knx_top.specs.commands.Assign.{AssignSimWords, AssignWords, BeginsAs, Gives, GivesDialled, GivesOnBus, GivesOr, GivesOver, GivesSim, Outcome, OverLink, RunsAssign, RunsAssignSim, TellsOutcome, Units, assign_sim_tests, begun_by, judged_units, units_told}
+use Rattle.knx_top.specs.declared.ending.End.{End}
+use Rattle.knx_top.specs.declared.ending.End.TheVariants as ends
+use Rattle.knx_top.specs.declared.given.AssignEnd.{AssignEnd}
+use Rattle.knx_top.specs.declared.given.AssignEnd.TheVariants as given
+use Rattle.knx_top.specs.declared.input.Reading.{Reading}
+use Rattle.knx_top.proofs.Ends.{stop_wants, stopped_report}
+use Rattle.knx_top.proofs.Stops.{does_by, read_step, step, stopped, stops_by, text_step, unless_stopped}
+
+-- ---- where memory is wanting to tell it
+
+untold_so : (wanted : IndAddr) (units : List BusUnit) (P : Outcome → Type 0) (end : AssignEnd) → TellsOutcome wanted units P end → TellsOutcome wanted units P (given.Untold tt)
+untold_so wanted units P end h = (h.0, h.1, tt)
+
+gives_wants : (words : AssignWords) (before after : DialerNow) (end : End) → Gives words before after end → Gives words before after (wanting end)
+gives_wants words before after (ends.Stops told) h = absurd h
+gives_wants words before after (ends.Tells text) h = absurd h
+gives_wants words before after ends.NotOpened h = h
+gives_wants words before after (ends.BreaksOff report want) h = absurd h
+gives_wants words before after (ends.Reports told) h = absurd h
+gives_wants words before after (ends.Sums told counts) h = absurd h
+gives_wants words before after (ends.Serves served) h = absurd h
+gives_wants words before after (ends.Finds searched) h = absurd h
+gives_wants words before after (ends.Assigns end) h = untold_so _ _ _ end h
+
+gives_sim_wants : (wanted : IndAddr) (text : Units) (before after : BusNow) (end : End) → GivesSim wanted text before after end → GivesSim wanted text before after (wanting end)
+gives_sim_wants wanted text before after (ends.Stops told) h = (refl, h.1)
+gives_sim_wants wanted text before after (ends.Tells octets) h = absurd h
+gives_sim_wants wanted text before after ends.NotOpened h = absurd h
+gives_sim_wants wanted text before after (ends.BreaksOff report want) h = absurd h
+gives_sim_wants wanted text before after (ends.Reports told) h = absurd h
+gives_sim_wants wanted text before after (ends.Sums told counts) h = absurd h
+gives_sim_wants wanted text before after (ends.Serves served) h = absurd h
+gives_sim_wants wanted text before after (ends.Finds searched) h = absurd h
+gives_sim_wants wanted text before after (ends.Assigns end) h = untold_so _ _ _ end h
+
+-- ---- it is of no run
+
+no_run : (words : AssignWords) (before after : DialerNow) (end : End) → Gives words before after end → report_in end ≡ None
+no_run words before after (ends.Stops told) h = absurd h
+no_run words before after (ends.Tells text) h = absurd h
+no_run words before after ends.NotOpened h = refl
+no_run words before after (ends.BreaksOff report want) h = absurd h
+no_run words before after (ends.Reports told) h = absurd h
+no_run words before after (ends.Sums told counts) h = absurd h
+no_run words before after (ends.Serves served) h = absurd h
+no_run words before after (ends.Finds searched) h = absurd h
+no_run words before after (ends.Assigns end) h = refl
+
+pub assign_no_run : (words : AssignWords) (before after : DialerNow) (end : End) → RunsAssign words before after (Is end) → report_in end ≡ None
+assign_no_run words before after end t = subst (λ (told : End). report_in told ≡ None) t.replied (no_run words before after t.end t.gives)
+
+sim_no_run : (wanted : IndAddr) (text : Units) (before after : BusNow) (end : End) → GivesSim wanted text before after end → report_in end ≡ None
+sim_no_run wanted text before after (ends.Stops told) h = refl
+sim_no_run wanted text before after (ends.Tells octets) h = absurd h
+sim_no_run wanted text before after ends.NotOpened h = absurd h
+sim_no_run wanted text before after (ends.BreaksOff report want) h = absurd h
+sim_no_run wanted text before after (ends.Reports told) h = absurd h
+sim_no_run wanted text before after (ends.Sums told counts) h = absurd h
+sim_no_run wanted text before after (ends.Serves served) h = absurd h
+sim_no_run wanted text before after (ends.Finds searched) h = absurd h
+sim_no_run wanted text before after (ends.Assigns end) h = refl
+
+by_tests : (words : AssignSimWords) (reading : Reading) (before after : BusNow) (end : End) (tests : Option Stop) → first_some (assign_sim_tests words reading) ≡ tests
+    → ((why : Stop) → first_some (assign_sim_tests words reading) ≡ Some why → report_in end ≡ None) → (first_some (assign_sim_tests words reading) ≡ None → report_in end ≡ None) → report_in end ≡ None
+by_tests words reading before after end (Some why) is stops gives = stops why is
+by_tests words reading before after end None is stops gives = gives is
+
+pub assign_sim_no_run : (words : AssignSimWords) (files files' : FilesNow) (before after : BusNow) (end : End) → RunsAssignSim words files files' before after (Is end) → report_in end ≡ None
+assign_sim_no_run words files files' before after end t =
+    subst (λ (told : End). report_in told ≡ None) t.replied
+    (by_tests words t.reading before after t.end _ refl (λ why e. stopped_report why t.end (t.stops why e).0) (λ e. sim_no_run _ _ before after t.end (t.gives e)))
+
+-- ---- what is written of it
+
+pub assign_written : (words : AssignWords) (before after : DialerNow) (end : End) (Replied : End → Type 0) → RunsAssign words before after (Is end) → Replied end ⊎ Replied (wanting end) → RunsAssign words before after Replied
+assign_written words before after end Replied t (inl replied) = record { end = t.end; gives = t.gives; replied = subst Replied (sym t.replied) replied }
+assign_written words before after end Replied t (inr replied) = record {
+  end = wanting t.end;
+  gives = gives_wants words before after t.end t.gives;
+  replied = subst (λ (told : End). Replied (wanting told)) (sym t.replied) replied;
+}
+
+pub assign_sim_written : (words : AssignSimWords) (files files' : FilesNow) (before after : BusNow) (end : End) (Replied : End → Type 0) → RunsAssignSim words files files' before after (Is end) → Replied end ⊎ Replied (wanting end)
+    → RunsAssignSim words files files' before after Replied
+assign_sim_written words files files' before after end Replied t (inl replied) = record {
+  reading = t.reading;
+  is_read = t.is_read;
+  counts = t.counts;
+  end = t.end;
+  stops = t.stops;
+  gives = t.gives;
+  replied = subst Replied (sym t.replied) replied;
+}
+assign_sim_written words files files' before after end Replied t (inr replied) = record {
+  reading = t.reading;
+  is_read = t.is_read;
+  counts = t.counts;
+  end = wanting t.end;
+  stops = λ why e. (stop_wants why t.end (t.stops why e).0, (t.stops why e).1);
+  gives = λ e. gives_sim_wants _ _ before after t.end (t.gives e);
+  replied = subst (λ (told : End). Replied (wanting told)) (sym t.replied) replied;
+}
+
+-- ---- the tests one after another
+
+judged_so : (words : AssignSimWords) (reading : Reading) → judged_units words reading ≡ unless_stopped (assign_sim_tests words reading) (units_told reading)
+judged_so words reading =
+    let t1 = fault_in (Some words.units) reading in
+    let t2 = text_refused file.Script (unit_reading (octets_of reading)) in
+    step (t1 ∷ []) (t2 ∷ []) (read_of (Some words.units) reading) (octets_of reading) (λ (octets : List ℕ). unless_refused file.Script (unit_reading octets)) (units_told reading) (read_step (Some words.units) reading)
+    (text_step file.Script ([], []) (unit_reading (octets_of reading)))
+
+pub units_stop : (words : AssignSimWords) (reading : Reading) (before after : BusNow) (end : End) → GivesOr words.wanted (judged_units words reading) before after end
+    → (why : Stop) → first_some (assign_sim_tests words reading) ≡ Some why → StopsFor why end × (after ≡ before)
+units_stop words reading before after end h = stops_by (after ≡ before) (λ text. GivesSim words.wanted text before after) (assign_sim_tests words reading) (units_told reading) _ end (judged_so words reading) h
+
+pub units_give : (words : AssignSimWords) (reading : Reading) (before after : BusNow) (end : End) → GivesOr words.wanted (judged_units words reading) before after end
+    → first_some (assign_sim_tests words reading) ≡ None → GivesSim words.wanted (units_told reading) before after end
+units_give words reading before after end h = does_by (after ≡ before) (λ text. GivesSim words.wanted text before after) (assign_sim_tests words reading) (units_told reading) _ end (judged_so words reading) h
+
+-- ---- what was given, by what the link told
+
+pub over_of : (wanted : IndAddr) (came : Outcome) (before faults : ℕ) (link : Story) → before ≡ 0 → WhereTold (EndsSo wanted came) link → WhereTold (λ places. AcknowledgesRightly (entries places)) link
+    → IfOk came (λ assigned. ¬ Rose before faults → WhereTold (Leaves wanted assigned) link) → IfErr came (λ fault. FailsBy fault before faults) → GivesOver wanted came faults link
+over_of wanted came before faults link none ended acknowledges leaves cause = record {
+  ends = ended;
+  acknowledges = acknowledges;
+  leaves = subst (λ (n : ℕ). IfOk came (λ assigned. ¬ Rose n faults → WhereTold (Leaves wanted assigned) link)) none leaves;
+  cause = subst (λ (n : ℕ). IfErr came (λ fault. FailsBy fault n faults)) none cause;
+}
+
+-- ---- over a dialled link
+
+pub given_dialled : (words : AssignWords) (before after : DialerNow) (since dials : ℕ) (given : Option Address) (end : AssignEnd) → before.faults ≤ since → Tells words.at.host words.at.port given → dials ≡ one_more before.dials → after.given ≡ given → after.dials ≡ dials
+    → TellsOutcome words.wanted [] (OverLink words.wanted since after) end → TellsOutcome words.wanted [] (GivesDialled words before after) end
+given_dialled words before after since dials given end count tells once same still h = (
+  h.0,
+  record { given = subst (Tells words.at.host words.at.port) (sym same) tells; once = still ∙ once; since = since; count = count; link = h.1 },
+  h.2,
+)
+
+-- ---- on a bus
+
+run_begun : (wanted : IndAddr) (text : Units) (bus : BusNow) → BeginsAs wanted (Ok text) bus → bus.run.begun ≡ begun_by wanted text
+run_begun wanted text bus b = ap (λ (r : RunNow). r.begun) b.0
+
+pub given_on : (wanted : IndAddr) (text : Units) (bus after : BusNow) (came : Outcome) → BeginsAs wanted (Ok text) bus → ((one other : Begun) → lines_of one ≡ lines_of other → one ≡ other) → lines_of after.run.begun ≡ lines_of bus.run.begun
+    → IsFresh (start after.run) → IsLegal (start after.run) after.run.events → FollowsText after.run.begun.losses (start after.run) after.run.events
+    → ((from : AddressWorld) (events : List AddressEvent) → told_of after.run ≡ Told from events → AlwaysKeepsUnits wanted from events) → GivesOver wanted came after.faults (story after.run) → GivesOnBus wanted text after came
+given_on wanted text bus after came b law same fresh legal follows units over =
+    let begun : after.run.begun ≡ begun_by wanted text = law after.run.begun bus.run.begun same ∙ run_begun wanted text bus b in
+    record {
+      begun = begun;
+      fresh = fresh;
+      legal = legal;
+      follows = subst (λ (losses : List UnitLoss). FollowsText losses (start after.run) after.run.events) (ap (λ (z : Begun). z.losses) begun) follows;
+      units = units (start after.run) after.run.events refl;
+      over = over;
+    }
+
+pub given_sim : (wanted : IndAddr) (text : Units) (bus after : BusNow) (came : Outcome) → BeginsAs wanted (Ok text) bus → ((one other : Begun) → lines_of one ≡ lines_of other → one ≡ other) → lines_of after.run.begun ≡ lines_of bus.run.begun
+    → IsFresh (start after.run) → IsLegal (start after.run) after.run.events → FollowsText after.run.begun.losses (start after.run) after.run.events
+    → ((from : AddressWorld) (events : List AddressEvent) → told_of after.run ≡ Told from events → AlwaysKeepsUnits wanted from events) → bus.faults ≡ 0
+    → WhereTold (EndsSo wanted came) (story after.run) → WhereTold (λ places. AcknowledgesRightly (entries places)) (story after.run)
+    → IfOk came (λ assigned. ¬ Rose bus.faults after.faults → WhereTold (Leaves wanted assigned) (story after.run)) → IfErr came (λ fault. FailsBy fault bus.faults after.faults) → GivesOnBus wanted text after came
+given_sim wanted text bus after came b law same fresh legal follows units none ended acknowledges leaves cause =
+    given_on wanted text bus after came b law same fresh legal follows units (over_of wanted came bus.faults after.faults (story after.run) none ended acknowledges leaves cause)
+
+-- what was judged has begun a bus on which nothing was done
+pub begun_new : (wanted : IndAddr) (j : Result Units Stop) (bus : BusNow) → BeginsAs wanted j bus → (bus.run.events ≡ []) × (bus.faults ≡ 0)
+begun_new wanted (Ok text) bus b = (ap (λ (r : RunNow). r.events) b.0, b.1)
+begun_new wanted (Err why) bus b = absurd b
+
+pub gives_or : (wanted : IndAddr) (j : Result Units Stop) (bus before after : BusNow) (end : End) → BeginsAs wanted j bus → ((text : Units) → BeginsAs wanted (Ok text) bus → GivesSim wanted text before after end) → GivesOr wanted j before after end
+gives_or wanted (Ok text) bus before after end b gives = gives text b
+gives_or wanted (Err why) bus before after end b gives = absurd b
+
+pub units_unread : (wanted : IndAddr) (j : Result Units Stop) (why : Stop) (before : BusNow) → (why ≢ stop.NoMemory tt → j ≡ Err why) → GivesOr wanted j before before (ends.Stops why)
+units_unread wanted j why before h = stopped (before ≡ before) (λ text. GivesSim wanted text before before) j why h refl (λ text memory. (memory, refl))
+
+-- the whole call
+pub runs_assign_sim : (words : AssignSimWords) (reading : Reading) (files files' : FilesNow) (before after : BusNow) (end : End) → IsRead files.file true (Some words.units) reading → OnlyRose (failed (Some words.units) reading) files.faults files'.faults
+    → GivesOr words.wanted (judged_units words reading) before after end → RunsAssignSim words files files' before after (Is end)
+runs_assign_sim words reading files files' before after end is counts h = record {
+  reading = reading;
+  is_read = is;
+  counts = counts;
+  end = end;
+  stops = units_stop words reading before after end h;
+  gives = units_give words reading before after end h;
+  replied = refl;
+}

@@ -1,0 +1,14 @@
+use Rattle.knx_top.proofs.commands.Assigns.{over_of}
+use Rattle.knx_top.proofs.commands.assign.give_over.Goals as goal
+
+pub returns-clause-tells : goal.returns-clause-tells
+returns-clause-tells g c = (
+  c.assign-link.result.1,
+  record {
+    faults = _;
+    taken = c.hang.ensures.count;
+    over = rw (c.hang.ensures.told, c.back.ensures)
+        (over_of c.args.wanted c.assign-link.result.1 _ _ _ (rw c.new.ensures c.requires.sound) c.assign-link.ensures.ends c.assign-link.ensures.acknowledges c.assign-link.ensures.leaves c.assign-link.ensures.cause);
+  },
+  rw (c.new-2.ensures) at c.of.ensures,
+)

@@ -1,0 +1,118 @@
+//! A dialer of one link.
+
+ghost use Rattle.std.specs.Prelude.{◌≡◌, None, Some, option_copied};
+ghost use Rattle.line_model.specs.LinkStory.{IsNewLink};
+
+use crate::dialer::Address;
+use crate::failing::FailingLink;
+use crate::port::FixedPort;
+use line_model::{DialFailed, Dialer, Link};
+use std::marker::Model;
+
+/// A dialer that hands a link out once, whatever it is, and keeps it when it comes back: over the simulated line, one that tells its events. Of the link the call
+/// with the number `fails_at` fails, none where that is 0. It binds no port, and tells the host and the port number that it was given last.
+#[derive(Drop)]
+pub struct LineDialer<N: Link + Send> {
+    line: Option<N>,
+    fails_at: u64,
+    line_back: Option<N>,
+    port_back: Option<FixedPort>,
+    given: Option<Address>,
+    dials: u64,
+    faults: u64,
+}
+
+impl<N: Link + Send> Model for LineDialer<N> {
+    ghost use Rattle.std.specs.Prelude.{IfSome, option_map};
+    ghost use Rattle.line_model.specs.LinkStory.{IsNewLink};
+    ghost use Rattle.line_fixed.specs.Dialling.{address_of};
+    ghost use Rattle.line_fixed.specs.OneLine.{OneLine};
+
+    ghost Value = { OneLine N };
+
+    ghost view = { λ d. record { line = d.line; fails_at = d.fails_at; line_back = d.line_back; port_back = d.port_back; given = option_map address_of d.given; dials = d.dials; faults = d.faults } };
+
+    ghost invariant = { λ d. IfSome d.line (λ line. IsNewLink (N.story line)) };
+}
+
+impl<N: Link + Send> LineDialer<N> {
+    /// A dialer of which no call was made yet.
+    pub fn new(line: N, fails_at: u64) -> LineDialer<N>
+        requires { IsNewLink (N.story line) }
+        ensures { result ≡ record { line = Some line; fails_at = fails_at; line_back = None; port_back = None; given = None; dials = 0; faults = 0 } }
+    {
+        LineDialer {
+            line: Some(line),
+            fails_at,
+            line_back: None,
+            port_back: None,
+            given: None,
+            dials: 0,
+            faults: 0,
+        }
+    }
+
+    /// The link that it took back.
+    pub fn line_back(&self) -> Option<&N>
+        ensures { option_copied result ≡ self.now.line_back }
+    {
+        self.line_back.as_ref()
+    }
+
+    /// How many calls failed, those of what was taken back counted as one.
+    pub fn faults(&self) -> u64
+        ensures { result ≡ self.now.faults }
+    {
+        self.faults
+    }
+}
+
+impl<N: Link + Send> Dialer for LineDialer<N> {
+    ghost use Rattle.line_fixed.specs.Dialling.{port_told};
+    ghost use Rattle.line_fixed.specs.OneLine.{line_told};
+
+    type L = FailingLink<N>;
+
+    type P = FixedPort;
+
+    ghost now = { λ d. record { faults = d.faults; dials = d.dials; given = d.given; link_back = line_told N.story d.line_back; port_back = port_told d.port_back } };
+
+    fn dial(&mut self, host: [u8; 4], port: u16) -> Result<FailingLink<N>, DialFailed> {
+        self.dials = self.dials.saturating_add(1);
+        self.given = Some(Address { host, port });
+        match self.line.take() {
+            Some(line) => Ok(FailingLink::new(line, self.fails_at)),
+            None => {
+                self.faults = self.faults.saturating_add(1);
+                Err(DialFailed)
+            }
+        }
+    }
+
+    fn bind(&mut self, host: [u8; 4], port: u16) -> Result<FixedPort, DialFailed> {
+        self.dials = self.dials.saturating_add(1);
+        self.given = Some(Address { host, port });
+        self.faults = self.faults.saturating_add(1);
+        Err(DialFailed)
+    }
+
+    fn hang(&mut self, line: FailingLink<N>) {
+        let FailingLink {
+            link,
+            fails_at: _,
+            calls: _,
+            faults,
+        } = line;
+        if faults != 0 {
+            self.faults = self.faults.saturating_add(1);
+        }
+        self.line_back = Some(link);
+    }
+
+    fn shut(&mut self, door: FixedPort) {
+        if door.faults != 0 {
+            self.faults = self.faults.saturating_add(1);
+        }
+        self.port_back = Some(door);
+    }
+}
