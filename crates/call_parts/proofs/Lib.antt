@@ -1,4 +1,4 @@
-pub mod Behind
+pub mod OptionsBehind
 pub mod Counts
 pub mod Ends
 pub mod FewJobs

@@ -1,4 +1,4 @@
-use Rattle.call_parts.proofs.Behind.{stripped}
+use Rattle.call_parts.proofs.OptionsBehind.{stripped}
 use Rattle.call_parts.proofs.options.behind.Goals as goal
 
 pub returns : goal.returns
