@@ -1,38 +1,41 @@
 -- A request is put, and waited for.
-use Rattle.std.proofs.Common.{◌≡◌, ◌≢◌, ℕ, ◌+◌, ◌-◌, ◌<◌, ◌≤◌, List, [], ◌∷◌, ◌++◌, Bool, true, false, cond, ◌||◌, Option, Some, None, Result, Ok, Err, refl, sym, ◌∙◌, ap, subst, inl, inr, ◌⊎◌, arith}
-use Rattle.std.specs.Prelude.{OnOk, IfErr}
+use Rattle.std.proofs.Common.{◌≡◌, ◌≢◌, ℕ, ◌+◌, ◌-◌, ◌<◌, ◌≤◌, List, [], ◌∷◌, ◌++◌, Bool, true, false, cond, Option, Some, None, Result, Ok, Err, refl, sym, ◌∙◌, ap, subst, inl, inr, ◌⊎◌, arith}
+use Rattle.std.specs.Prelude.{OnOk}
+use Rattle.std.proofs.lemmas.Bool.{ltb-true, ltb-false}
+use Rattle.std.proofs.Math.Dec.{ltb}
 use Rattle.std.proofs.lemmas.List.{append-nil}
 use Rattle.knx_model.specs.declared.address.IndAddr.{IndAddr}
-use Rattle.knx_model.specs.declared.frames.cemi.Ldata.{Ldata}
-use Rattle.knx_model.specs.declared.frames.tpdu.Apdu.TheVariants.{AddressWrite, AddressRead}
-use Rattle.knx_model.specs.ApduReading.{apdu_in, tpdu_in, service_in, apdu_octets}
+use Rattle.knx_model.specs.ApduReading.{apdu_in, tpdu_in, service_in}
 use Rattle.line_model.specs.declared.fault.HubFault.{HubFault}
 use Rattle.line_model.specs.Reading.{ldata_in, RequestFrame, request_in}
-use Rattle.line_model.specs.Record.{Item, Put, Renewed, Got, Quiet, Entry, entry, Placed, entries, is_got, got_in}
-use Rattle.line_model.specs.LinkStory.{Story, places_in, newest_time}
-use Rattle.line_model.specs.Asks.{HasPlace, moment_of}
+use Rattle.line_model.specs.Record.{Item, Put, Renewed, Got, Quiet, entry, Placed, entries, is_got, got_in}
+use Rattle.line_model.specs.LinkStory.{Story, newest_time}
+use Rattle.line_model.specs.Asks.{moment_of}
 use Rattle.line_model.specs.ChannelLost.{is_lost, last_frame, delivers, expected}
-use Rattle.line_model.specs.ClientView.{ClientChannel, Fresh, Sought, RefusedBy, Unanswered, Open, Lost, Deed, Puts, Takes, Loses, Nothing, as_counted, channel, deed, deed_of, deed_in}
+use Rattle.line_model.specs.ClientView.{ClientChannel, Fresh, Sought, RefusedBy, Unanswered, Open, Lost, Deed, Puts, Takes, Loses, as_counted, channel, deed, deed_of, deed_in}
 use Rattle.line_model.specs.Faults.{datagrams_taken, flood}
 use Rattle.line_model.specs.Moments.{Moment, moments}
 use Rattle.tunnel_link.proofs.PutLast.{counted_puts}
 use Rattle.tunnel_link.specs.Adds.{Growing, PutsIt, PutsOne, moments_on}
+use Rattle.tunnel_link.specs.Alone.{Each, EndsNone}
 use Rattle.tunnel_link.specs.Goes.{GoesOn}
+use Rattle.tunnel_link.specs.Paces.{TakesNoTime}
 use Rattle.tunnel_link.specs.Rights.{WhereTold}
 use Rattle.address_world.specs.declared.asked.Asked.{Asked}
 use Rattle.address_world.specs.declared.asked.Asked.TheVariants.{Read, Connect, Disconnect, Write}
 use Rattle.address_world.specs.Keeps.{frame_of}
 use Rattle.address_commission.specs.declared.assigned.AssignFault.{AssignFault}
 use Rattle.address_commission.specs.declared.ear.Ear.{Ear}
-use Rattle.address_commission.specs.declared.ear.Heard.{Heard}
 use Rattle.address_commission.specs.declared.ear.Heard.TheVariants as ear
 use Rattle.address_commission.specs.Rounds.{Round, begun, rounds, is_read, answers, quiet_since, has_lost}
-use Rattle.address_commission.specs.Talk.{AsksFor, MayAsk, ReadsFirst, Connects, Disconnects, Writes, ReadsLast, AsksRightly, DoesRightly, TalksRightly, HeardOut, listening_wait}
-use Rattle.address_commission.specs.Going.{ComesFrom, Going, GoOn, SameRounds, OneMore, AsksOne}
-use Rattle.address_commission.specs.Listening.{HeardSo, HearsRounds, Stands, Listens, HasWaited, IsTurnTo, IsOut, quiet_after}
+use Rattle.address_commission.specs.Talk.{MayAsk, ReadsFirst, Connects, Disconnects, Writes, ReadsLast, AsksRightly, DoesRightly, TalksRightly, HeardOut, HeardOutBy, listening_wait}
+use Rattle.address_commission.specs.Pace.{Paced}
+use Rattle.address_commission.specs.Going.{Going, GoOn, SameRounds, OneMore, AsksOne}
+use Rattle.address_commission.specs.Listening.{HeardSo, HearsRounds, Stands, Listens, HasWaited, IsTurnTo, IsOut, ListensFor, AwaitsFor, quiet_after}
 use Rattle.address_commission.specs.Ends.{FailsSo, ToldAs, CausedBy, AsksGoes, TalkFails, TalkGoes}
+use Rattle.address_commission.proofs.Calls.{paced_on, paced_so_far}
 use Rattle.address_commission.proofs.Folds.{NoGot, quiet_on, count_on}
-use Rattle.address_commission.proofs.Steps.{Step, step_of}
+use Rattle.address_commission.proofs.Steps.{step_of}
 
 -- ---- which frames are reads
 
@@ -129,7 +132,7 @@ heard_before wanted _ e f cemi rs (ReadsLast asks) b is h = heard_read wanted e 
 
 module _ (wanted : IndAddr) (asked : Asked) (e f : Ear) (cemi : List ℕ) (at : ℕ) (is : ldata_in cemi ≡ Some (frame_of wanted asked)) (b : Before asked e f) where
   right : (old : List Placed) → IsTurnTo wanted asked old → has_lost (moments old) ≡ false → AsksRightly wanted old cemi
-  right old t kept = record { asked = asked; reads = is; may = t.may; heard_out = t.heard_out; kept = kept }
+  right old t kept = record { asked = asked; reads = is; may = t.may; heard_out = t.heard_out; place = t.place; kept = kept }
 
   put_talks : (old added new : List Placed) → new ≡ added ++ old → PutsIt cemi at old added → IsTurnTo wanted asked old → Stands wanted old → TalksRightly wanted new
   put_talks old added new grow put t s = subst (TalksRightly wanted) (sym grow) ((one_put wanted cemi _ old added put refl).talks (right old t s.kept) s.rightly)
@@ -141,8 +144,8 @@ module _ (wanted : IndAddr) (asked : Asked) (e f : Ear) (cemi : List ℕ) (at : 
   new_rounds : (old added new : List Placed) → moments new ≡ moments_on old added ++ moments old → PutsIt cemi at old added → rounds (moments new) ≡ begun cemi ∷ rounds (moments old)
   new_rounds old added new more put = ap rounds (more ∙ ap (λ (z : List Moment). z ++ moments old) put)
 
-  put_listens : (old added new : List Placed) → new ≡ added ++ old → moments new ≡ moments_on old added ++ moments old → PutsIt cemi at old added → IsTurnTo wanted asked old → Listens wanted e old → Listens wanted f new
-  put_listens old added new grow more put t l =
+  put_listens : (old added new : List Placed) → new ≡ added ++ old → moments new ≡ moments_on old added ++ moments old → PutsIt cemi at old added → IsTurnTo wanted asked old → Paced wanted new → Listens wanted e old → Listens wanted f new
+  put_listens old added new grow more put t paced l =
       let none : NoGot added = (one_put wanted cemi _ old added put refl).no_got in
       let count : datagrams_taken (entries new) ≡ datagrams_taken (entries old) = ap (λ (z : List Placed). datagrams_taken (entries z)) grow ∙ count_on added old none in
       let quiet : quiet_since (entries new) ≡ quiet_since (entries old) = ap (λ (z : List Placed). quiet_since (entries z)) grow ∙ quiet_on added old none in
@@ -151,6 +154,7 @@ module _ (wanted : IndAddr) (asked : Asked) (e f : Ear) (cemi : List ℕ) (at : 
           rightly = put_talks old added new grow put t l.stands;
           kept = ap has_lost (more ∙ ap (λ (z : List Moment). z ++ moments old) put) ∙ l.stands.kept;
           few = subst (λ (z : ℕ). z < flood) (sym count) l.stands.few;
+          paced = paced;
         };
         hears = record {
           rounds_so = subst (HearsRounds f) (sym (new_rounds old added new more put)) (heard_before wanted asked e f cemi (rounds (moments old)) t.may b is l.hears.rounds_so);
@@ -158,12 +162,12 @@ module _ (wanted : IndAddr) (asked : Asked) (e f : Ear) (cemi : List ℕ) (at : 
         };
       }
 
-  pub put_goes : (s t : Story) → GoesOn s t → Growing (PutsOne {X = Unit {0}} (Ok tt) cemi at) s t → WhereTold (IsTurnTo wanted asked) s → AsksGoes {X = Unit {0}} wanted asked e f s t (Ok tt)
-  put_goes s t g h turn = record {
+  pub put_goes : (s t : Story) → GoesOn s t → Growing (PutsOne {X = Unit {0}} (Ok tt) cemi at) s t → Growing (Each TakesNoTime) s t → Growing (Each EndsNone) s t → WhereTold (IsTurnTo wanted asked) s → AsksGoes {X = Unit {0}} wanted asked e f s t (Ok tt)
+  put_goes s t g h time none turn = record {
     listens = λ l new p.
         let x = step_of (PutsOne {X = Unit {0}} (Ok tt) cemi at) s t new g h p in
         let now = turn x.old x.told in
-        put_listens x.old x.added new x.grow x.moments_grow (x.is now.place) now (l x.old x.told);
+        put_listens x.old x.added new x.grow x.moments_grow (x.is now.place) now (paced_on e s t g time none wanted l new p) (l x.old x.told);
     moves = λ l new p.
         let x = step_of (PutsOne {X = Unit {0}} (Ok tt) cemi at) s t new g h p in
         let now = turn x.old x.told in
@@ -171,14 +175,14 @@ module _ (wanted : IndAddr) (asked : Asked) (e f : Ear) (cemi : List ℕ) (at : 
     fails = λ l. tt;
   }
 
-  pub put_fails : (fault : HubFault) (s t : Story) (why : AssignFault) → GoesOn s t → Growing (PutsOne {X = Unit {0}} (Err fault) cemi at) s t → WhereTold (IsTurnTo wanted asked) s → WhereTold (FailsSo why) t → AsksGoes {X = Unit {0}} wanted asked e f s t (Err why)
-  put_fails fault s t why g h turn cause = record {
+  pub put_fails : (fault : HubFault) (s t : Story) (why : AssignFault) → GoesOn s t → Growing (PutsOne {X = Unit {0}} (Err fault) cemi at) s t → Growing (Each TakesNoTime) s t → Growing (Each EndsNone) s t → WhereTold (IsTurnTo wanted asked) s → WhereTold (FailsSo why) t → AsksGoes {X = Unit {0}} wanted asked e f s t (Err why)
+  put_fails fault s t why g h time none turn cause = record {
     listens = λ l. tt;
     moves = λ l. tt;
     fails = λ l new p.
         let x = step_of (PutsOne {X = Unit {0}} (Err fault) cemi at) s t new g h p in
         let now = turn x.old x.told in
-        (cause new p, none_talks x.old x.added new x.grow (x.is now.place) now (l x.old x.told).stands);
+        record { cause = cause new p; rightly = none_talks x.old x.added new x.grow (x.is now.place) now (l x.old x.told).stands; paced = paced_so_far e s t g time none wanted l new p };
   }
 
 -- ---- its wait
@@ -232,11 +236,11 @@ asked_out wanted asked e f s u m w l new p =
 -- ---- by what the client's end of the tunnel told
 
 pub put_told : (wanted : IndAddr) (asked : Asked) (e f : Ear) (cemi : List ℕ) (at : ℕ) → ldata_in cemi ≡ Some (frame_of wanted asked) → Before asked e f → (call : Result (Unit {0}) HubFault) (result : Result (Unit {0}) AssignFault) → ToldAs call result → (s t : Story) → GoesOn s t → Growing (PutsOne call cemi at) s t
-    → WhereTold (IsTurnTo wanted asked) s → WhereTold (CausedBy result) t → AsksGoes wanted asked e f s t result
-put_told wanted asked e f cemi at is b (Ok done) (Ok same) told s t g h turn cause = put_goes wanted asked e f cemi at is b s t g h turn
-put_told wanted asked e f cemi at is b (Ok done) (Err why) told s t g h turn cause = absurd (cc)
-put_told wanted asked e f cemi at is b (Err fault) (Ok done) told s t g h turn cause = absurd (cc)
-put_told wanted asked e f cemi at is b (Err fault) (Err why) told s t g h turn cause = put_fails wanted asked e f cemi at is b fault s t why g h turn cause
+    → Growing (Each TakesNoTime) s t → Growing (Each EndsNone) s t → WhereTold (IsTurnTo wanted asked) s → WhereTold (CausedBy result) t → AsksGoes wanted asked e f s t result
+put_told wanted asked e f cemi at is b (Ok done) (Ok same) told s t g h time none turn cause = put_goes wanted asked e f cemi at is b s t g h time none turn
+put_told wanted asked e f cemi at is b (Ok done) (Err why) told s t g h time none turn cause = absurd (cc)
+put_told wanted asked e f cemi at is b (Err fault) (Ok done) told s t g h time none turn cause = absurd (cc)
+put_told wanted asked e f cemi at is b (Err fault) (Err why) told s t g h time none turn cause = put_fails wanted asked e f cemi at is b fault s t why g h time none turn cause
 
 -- ---- a request and its wait, where it listened before
 
@@ -246,3 +250,51 @@ asked_fails wanted asked e f s u result m l = m.fails l
 pub out_goes : (wanted : IndAddr) (asked : Asked) (e f : Ear) (s u : Story) (result : Result (Unit {0}) AssignFault) → AsksGoes wanted asked e f s u result → OnOk result (WhereTold (HasWaited (quiet_after asked) f) u) → WhereTold (Listens wanted e) s → OnOk result (WhereTold (IsOut wanted f) u)
 out_goes wanted asked e f s u (Ok done) m w l = asked_out wanted asked e f s u m w l
 out_goes wanted asked e f s u (Err why) m w l = tt
+
+-- ---- the wait for a request
+
+listens_by : (wanted : IndAddr) (asked : Asked) (old new : List Round) → OneMore wanted asked old new → ListensFor (quiet_after asked) new
+listens_by wanted asked old [] m = absurd m
+listens_by wanted Read old (r ∷ rs) m = inr (refl, λ other. m.0)
+listens_by wanted Connect old (r ∷ rs) m = inl refl
+listens_by wanted Disconnect old (r ∷ rs) m = inl refl
+listens_by wanted Write old (r ∷ rs) m = inl refl
+
+pub listens_for : (wanted : IndAddr) (asked : Asked) (s t : Story) → Going (AsksOne wanted asked) s t → WhereTold (λ places. ListensFor (quiet_after asked) (rounds (moments places))) t
+listens_for wanted asked s t m new p = let x = m new p in listens_by wanted asked (rounds (moments x.old)) (rounds (moments new)) x.is
+
+still_for : (quiet : ℕ) (rs ss : List Round) → GoOn rs ss → ListensFor quiet rs → ListensFor quiet ss
+still_for quiet [] ss g h = absurd h
+still_for quiet (r ∷ rs) [] g h = absurd g
+still_for quiet (r ∷ rs) (s ∷ ss) g (inl none) = inl none
+still_for quiet (r ∷ rs) (s ∷ ss) g (inr h) = inr (h.0, λ wanted. g.0 ∙ h.1 wanted)
+
+pub still_listens_for : (quiet : ℕ) (s t : Story) → Going SameRounds s t → WhereTold (λ places. ListensFor quiet (rounds (moments places))) s → WhereTold (λ places. ListensFor quiet (rounds (moments places))) t
+still_listens_for quiet s t m h new p = let x = m new p in still_for quiet (rounds (moments x.old)) (rounds (moments new)) x.is (h x.old x.told)
+
+-- as long as it hasn't waited, something is awaited until the listening ends
+awaits_by : (wanted : IndAddr) (quiet longest now newest since : ℕ) (e : Ear) (rs : List Round) → ListensFor quiet rs → HearsRounds e rs → (e.confirmed ≢ None → quiet ≤ newest - since → ⊥) → (e.confirmed ≢ None → newest - since < quiet → longest ≡ quiet - (newest - since)) → now < newest + longest
+    → HeardOutBy wanted rs since now → ⊥
+awaits_by wanted quiet longest now newest since e [] f h not rest lt out = absurd f
+awaits_by wanted quiet longest now newest since e (r ∷ rs) (inl none) h not rest lt out = not (λ c. out.confirmed (sym h.1 ∙ c)) (omega (arith, none))
+awaits_by wanted quiet longest now newest since e (r ∷ rs) (inr f) h not rest lt out = by_quiet (ltb (newest - since) quiet) refl where
+  some : e.confirmed ≢ None
+  some c = out.confirmed (sym h.1 ∙ c)
+
+  by_quiet : (t : Bool) → ltb (newest - since) quiet ≡ t → ⊥
+  by_quiet true w =
+      let less : newest - since < quiet = ltb-true (newest - since) quiet w in
+      let is : longest ≡ quiet - (newest - since) = rest some less in
+      let all : quiet ≡ listening_wait = f.0 in
+      let over : since + listening_wait ≤ now = out.quiet (f.1 wanted) in
+      absurd (let z : now < now = omega (arith, less, is, all, over, lt) in omega (arith, z))
+  by_quiet false w = not some (ltb-false (newest - since) quiet w)
+
+pub awaits_for : (quiet longest now : ℕ) (e : Ear) (s : Story) → WhereTold (λ places. ListensFor quiet (rounds (moments places))) s → WhereTold (λ places. now ≡ newest_time (entries places)) s → WhereTold (λ places. HasWaited quiet e places → ⊥) s
+    → (e.confirmed ≢ None → now - e.since < quiet → longest ≡ quiet - (now - e.since)) → (wanted : IndAddr) → WhereTold (Listens wanted e) s → WhereTold (AwaitsFor wanted longest) s
+awaits_for quiet longest now e s f time not rest wanted l places p then lt place out =
+    let h = (l places p).hears in
+    let is : now ≡ newest_time (entries places) = time places p in
+    let as_well : (e.confirmed ≢ None → newest_time (entries places) - e.since < quiet → longest ≡ quiet - (newest_time (entries places) - e.since)) = subst (λ (n : ℕ). e.confirmed ≢ None → n - e.since < quiet → longest ≡ quiet - (n - e.since)) is rest in
+    awaits_by wanted quiet longest then (newest_time (entries places)) e.since e (rounds (moments places)) (f places p) h.rounds_so
+    (λ some enough. not places p (record { place = place; confirmed = some; enough = enough })) as_well lt (subst (λ (n : ℕ). HeardOutBy wanted (rounds (moments places)) n then) (sym h.since) out)

@@ -1,30 +1,35 @@
 -- What the calls of the talk come to.
-use Rattle.std.proofs.Common.{◌≡◌, ℕ, ◌<◌, ◌≤◌, List, [], ◌∷◌, ◌++◌, Bool, true, false, Option, Some, None, Result, Ok, Err, refl, sym, ◌∙◌, ap, subst, arith}
+use Rattle.std.proofs.Common.{◌≡◌, ℕ, ◌<◌, ◌≤◌, List, Bool, true, false, Some, Result, Ok, Err, refl, sym, ap, subst, arith}
 use Rattle.std.specs.Prelude.{OnOk, IfErr, IsErr, IsErrAnd, ◌-◌, ◌^◌, min}
 use Rattle.std.specs.List.{list_any}
 use Rattle.knx_model.specs.declared.address.IndAddr.{IndAddr}
 use Rattle.line_model.specs.declared.fault.HubFault.{HubFault}
+use Rattle.line_model.specs.Asks.{HasPlace}
+use Rattle.line_model.specs.ClientView.{channel}
 use Rattle.line_model.specs.Record.{Placed, entries, is_poll}
 use Rattle.line_model.specs.LinkStory.{Story, places_in, newest_time}
 use Rattle.line_model.specs.Faults.{datagrams_taken, flood}
 use Rattle.line_model.specs.Moments.{moments}
 use Rattle.tunnel_link.specs.declared.acted.Acted.{Acted}
 use Rattle.tunnel_link.specs.declared.came.Came.{Came}
-use Rattle.tunnel_link.specs.declared.came.Loss.{Loss}
 use Rattle.tunnel_link.specs.declared.came.Loss.TheVariants.{Stays}
-use Rattle.tunnel_link.specs.Adds.{Growing, Acts, Seeks, PollAdds, AllNothing, moments_on}
+use Rattle.tunnel_link.specs.Adds.{Growing, Acts, Seeks, PollAdds, moments_on}
+use Rattle.tunnel_link.specs.Alone.{Each, EndsNone, LeavesAlone}
 use Rattle.tunnel_link.specs.Goes.{GoesOn}
+use Rattle.tunnel_link.specs.Paces.{TakesNoTime, BeatsInTime, PollsWithin}
 use Rattle.tunnel_link.specs.Rights.{WhereTold, at_most_64_bits}
 use Rattle.address_commission.specs.declared.assigned.AssignFault.{AssignFault}
 use Rattle.address_commission.specs.declared.assigned.AssignFault.TheVariants.{TunnelLost, LinkFailed, GatewayRefused, Flooded, NoMemory}
 use Rattle.address_commission.specs.declared.ear.Ear.{Ear}
-use Rattle.address_commission.specs.Rounds.{rounds, has_lost}
+use Rattle.address_commission.specs.Rounds.{rounds}
 use Rattle.address_commission.specs.Talk.{TalksRightly}
-use Rattle.address_commission.specs.Going.{ComesFrom, Going, GoOn, SameRounds}
-use Rattle.address_commission.specs.Listening.{HearsWhat, Listens}
-use Rattle.address_commission.specs.Ends.{FailsSo, ToldAs, CausedBy, EndsFor, TalkGoes}
+use Rattle.address_commission.specs.Going.{Going, SameRounds}
+use Rattle.address_commission.specs.Listening.{AwaitsFor, HearsWhat, Listens}
+use Rattle.address_commission.specs.Ends.{FailsSo, FailsRightly, ToldAs, EndsFor, TalkGoes}
+use Rattle.address_commission.specs.Pace.{Paced, PacedUntil}
 use Rattle.address_commission.proofs.Folds.{talks_on, puts_none}
 use Rattle.address_commission.proofs.Heard.{go_same, go_on}
+use Rattle.address_commission.proofs.Pacing.{PollsSo, also, still_paced, so_far, poll_paced, poll_paced_until}
 use Rattle.address_commission.proofs.Steps.{Step, step_of, nothing_talks, nothing_same, nothing_listens, Polled, poll_step, polled_listens}
 
 -- ---- what was so before
@@ -36,14 +41,24 @@ before P s old h e = h old e
 -- ---- a call that fails
 
 -- a call fails for this, after which all that was put was rightly put
-pub failed : {X : Type 0} (Q : List Placed → List Placed → Type 0) (e f : Ear) (s t : Story) (why : AssignFault) → ((wanted : IndAddr) → WhereTold (Listens wanted e) s → WhereTold (λ places. FailsSo why places × TalksRightly wanted places) t)
+pub failed : {X : Type 0} (Q : List Placed → List Placed → Type 0) (e f : Ear) (s t : Story) (why : AssignFault) → ((wanted : IndAddr) → WhereTold (Listens wanted e) s → WhereTold (FailsRightly wanted why) t)
     → TalkGoes {X = X} Q e f s t (Err why)
 failed Q e f s t why fails = record { listens = λ wanted h. tt; moves = λ wanted h. tt; fails = fails }
 
 -- it is told that the client's end of the tunnel failed
 pub told_failed : {X : Type 0} (Q : List Placed → List Placed → Type 0) (e f : Ear) (s t : Story) (why : AssignFault) → WhereTold (FailsSo why) t → ((wanted : IndAddr) → WhereTold (Listens wanted e) s → WhereTold (TalksRightly wanted) t)
-    → TalkGoes {X = X} Q e f s t (Err why)
-told_failed Q e f s t why cause talks = failed Q e f s t why (λ wanted h places p. (cause places p, talks wanted h places p))
+    → ((wanted : IndAddr) → WhereTold (Listens wanted e) s → WhereTold (PacedUntil wanted) t) → TalkGoes {X = X} Q e f s t (Err why)
+told_failed Q e f s t why cause talks paced = failed Q e f s t why (λ wanted h places p. record { cause = cause places p; rightly = talks wanted h places p; paced = paced wanted h places p })
+
+-- ---- a call that lets no time pass, and doesn't ask to end the open channel
+
+pub paced_on : (e : Ear) (s t : Story) → GoesOn s t → Growing (Each TakesNoTime) s t → Growing (Each EndsNone) s t → (wanted : IndAddr) → WhereTold (Listens wanted e) s → WhereTold (Paced wanted) t
+paced_on e s t g time none wanted l new p =
+    let x = step_of (Each TakesNoTime) s t new g time p in
+    subst (Paced wanted) (sym x.grow) (still_paced wanted x.added x.old x.is (also (Each TakesNoTime) (Each EndsNone) s t new x none p) (l x.old x.told).stands.paced)
+
+pub paced_so_far : (e : Ear) (s t : Story) → GoesOn s t → Growing (Each TakesNoTime) s t → Growing (Each EndsNone) s t → (wanted : IndAddr) → WhereTold (Listens wanted e) s → WhereTold (PacedUntil wanted) t
+paced_so_far e s t g time none wanted l new p = so_far wanted new (paced_on e s t g time none wanted l new p)
 
 -- a `?` hands on this fault
 pub handed_on : {X : Type 0} (result : Result X AssignFault) (why : AssignFault) → IsErr result × IsErrAnd result (λ y. y ≡ why) → result ≡ Err why
@@ -66,19 +81,25 @@ act_talks (Err fault) e s t g h wanted l new p =
     nothing_talks wanted e x.old x.added new x.grow x.moments_grow x.is (l x.old x.told).stands.rightly
 
 -- by what became of the channel
-pub act_goes : (result : Result (Unit {0}) AssignFault) (acted : Acted) (e : Ear) (s t : Story) → GoesOn s t → Growing (Acts (Ok acted)) s t → OnOk result (acted.loss ≡ Stays) → IfErr result (λ fault. (fault ≡ TunnelLost) × (acted.loss ≡ Stays → ⊥))
+pub act_goes : (result : Result (Unit {0}) AssignFault) (acted : Acted) (e : Ear) (s t : Story) → GoesOn s t → Growing (Acts (Ok acted)) s t → Growing (Each TakesNoTime) s t → Growing (Each EndsNone) s t → OnOk result (acted.loss ≡ Stays) → IfErr result (λ fault. (fault ≡ TunnelLost) × (acted.loss ≡ Stays → ⊥))
     → TalkGoes SameRounds e e s t result
-act_goes (Ok done) acted e s t g h stays lost = record {
+act_goes (Ok done) acted e s t g h time none stays lost = record {
   listens = λ wanted l new p.
       let x = step_of (Acts (Ok acted)) s t new g h p in
-      nothing_listens wanted e x.old x.added new x.grow x.moments_grow x.is.0 x.is.1.only_sends (l x.old x.told);
+      nothing_listens wanted e x.old x.added new x.grow x.moments_grow x.is.0 x.is.1.only_sends (paced_on e s t g time none wanted l new p) (l x.old x.told);
   moves = λ wanted l new p.
       let x = step_of (Acts (Ok acted)) s t new g h p in
       record { old = x.old; told = x.told; is = nothing_same wanted e x.old x.added new x.grow x.moments_grow x.is.0 };
   fails = λ wanted l. tt;
 }
-act_goes (Err why) acted e s t g h stays lost =
+act_goes (Err why) acted e s t g h time none stays lost =
     failed SameRounds e e s t why (λ wanted l new p. let x = step_of (Acts (Ok acted)) s t new g h p in absurd (lost.1 x.is.1.loss))
+
+-- ---- what is awaited
+
+-- where nothing can be put
+pub none_awaited : (s : Story) → WhereTold (λ places. HasPlace (channel (entries places)) → ⊥) s → (wanted : IndAddr) (longest : ℕ) → WhereTold (AwaitsFor wanted longest) s
+none_awaited s without wanted longest places p now lt place heard = without places p place
 
 -- ---- a new channel
 
@@ -91,11 +112,11 @@ seek_sends : (sought : Bool) (old added : List Placed) → Seeks (Ok sought) old
 seek_sends true old added h = h.so.0
 seek_sends false old added h = rw h.so.0 refl
 
-pub seek_goes : (sought : Bool) (e : Ear) (s t : Story) → GoesOn s t → Growing (Seeks (Ok sought)) s t → TalkGoes {X = Unit {0}} SameRounds e e s t (Ok tt)
-seek_goes sought e s t g h = record {
+pub seek_goes : (sought : Bool) (e : Ear) (s t : Story) → GoesOn s t → Growing (Seeks (Ok sought)) s t → Growing (Each TakesNoTime) s t → Growing (Each EndsNone) s t → TalkGoes {X = Unit {0}} SameRounds e e s t (Ok tt)
+seek_goes sought e s t g h time none = record {
   listens = λ wanted l new p.
       let x = step_of (Seeks (Ok sought)) s t new g h p in
-      nothing_listens wanted e x.old x.added new x.grow x.moments_grow x.is.nothing (seek_sends sought x.old x.added x.is) (l x.old x.told);
+      nothing_listens wanted e x.old x.added new x.grow x.moments_grow x.is.nothing (seek_sends sought x.old x.added x.is) (paced_on e s t g time none wanted l new p) (l x.old x.told);
   moves = λ wanted l new p.
       let x = step_of (Seeks (Ok sought)) s t new g h p in
       record { old = x.old; told = x.told; is = nothing_same wanted e x.old x.added new x.grow x.moments_grow x.is.nothing };
@@ -110,11 +131,20 @@ poll_talks (Err fault) why told e s t g h wanted l new p =
     let x = step_of (PollAdds (Err fault)) s t new g h p in
     subst (TalksRightly wanted) (sym x.grow) (talks_on wanted x.old x.added (puts_none (moments_on x.old x.added) x.is.puts_none) (l x.old x.told).stands.rightly)
 
+pub polls_so : (longest : ℕ) (P : List Placed → List Placed → Type 0) (s t : Story) (new : List Placed) (x : Step P s new) → Growing (PollsWithin longest) s t → Growing (Each BeatsInTime) s t → Growing (Each LeavesAlone) s t → places_in t ≡ Some new → PollsSo longest x.old x.added
+polls_so longest P s t new x within beats alone p = record { within = also P (PollsWithin longest) s t new x within p; beats = also P (Each BeatsInTime) s t new x beats p; alone = also P (Each LeavesAlone) s t new x alone p }
+
+pub poll_until : (longest : ℕ) (e : Ear) (s t : Story) → GoesOn s t → Growing (PollsWithin longest) s t → Growing (Each BeatsInTime) s t → Growing (Each LeavesAlone) s t → (wanted : IndAddr) → WhereTold (Listens wanted e) s → WhereTold (PacedUntil wanted) t
+poll_until longest e s t g within beats alone wanted l new p =
+    let x = step_of (PollsWithin longest) s t new g within p in
+    poll_paced_until wanted longest x.old x.added new x.grow (polls_so longest (PollsWithin longest) s t new x within beats alone p) (l x.old x.told).stands.paced
+
 -- a count of 64 bits, and what it counts
 counted : (n k : ℕ) → k < 2 ^ 64 - 1 → (min n (2 ^ 64 - 1) < k → n < k) × (k ≤ min n (2 ^ 64 - 1) → k ≤ n)
 counted n k lt = (λ h. omega (arith, h, lt), λ h. omega (arith, h, lt))
 
-module _ (came : Came) (e f : Ear) (now taken : ℕ) (s t : Story) (g : GoesOn s t) (h : Growing (PollAdds (Ok came)) s t) (w : HearsWhat came.what now e f) (at : WhereTold (λ places. now ≡ newest_time (entries places)) t)
+module _ (longest : ℕ) (came : Came) (e f : Ear) (now taken : ℕ) (s t : Story) (g : GoesOn s t) (h : Growing (PollAdds (Ok came)) s t) (within : Growing (PollsWithin longest) s t) (beats : Growing (Each BeatsInTime) s t) (alone : Growing (Each LeavesAlone) s t)
+    (awaits : (wanted : IndAddr) → WhereTold (Listens wanted e) s → WhereTold (AwaitsFor wanted longest) s) (w : HearsWhat came.what now e f) (at : WhereTold (λ places. now ≡ newest_time (entries places)) t)
     (counts : WhereTold (λ places. taken ≡ at_most_64_bits (datagrams_taken (entries places))) t) where
   polled : (wanted : IndAddr) (new : List Placed) → WhereTold (Listens wanted e) s → places_in t ≡ Some new → (x : Step (PollAdds (Ok came)) s new) → Polled wanted f came.loss x.old new
   polled wanted new l p x = poll_step wanted e f came now x.old x.added new x.grow x.moments_grow x.is w (at new p) (l x.old x.told)
@@ -126,28 +156,30 @@ module _ (came : Came) (e f : Ear) (now taken : ℕ) (s t : Story) (g : GoesOn s
   poll_floods many = failed SameRounds e f s t Flooded (λ wanted l new p.
       let q = polled wanted new l p (step new p) in
       let reached : flood ≤ datagrams_taken (entries new) = (counted (datagrams_taken (entries new)) flood (omega arith)).1 (subst (λ (n : ℕ). flood ≤ n) (counts new p) many) in
-      (omega (arith, reached, q.at_most), q.rightly))
+      record { cause = omega (arith, reached, q.at_most); rightly = q.rightly; paced = poll_until longest e s t g within beats alone wanted l new p })
 
   pub poll_ends : (result : Result (Unit {0}) AssignFault) → OnOk result ((taken < 16777216) × (came.loss ≡ Stays)) → IfErr result (λ why. EndsFor why taken came.loss) → TalkGoes SameRounds e f s t result
   poll_ends (Ok done) stays lost = record {
     listens = λ wanted l new p.
         let x = step new p in
         let few : datagrams_taken (entries new) < flood = (counted (datagrams_taken (entries new)) flood (omega arith)).0 (subst (λ (n : ℕ). n < flood) (counts new p) stays.0) in
-        polled_listens wanted f came.loss x.old new (polled wanted new l p x) stays.1 few;
+        let q = polled wanted new l p x in
+        polled_listens wanted f came.loss x.old new q stays.1 few
+        (poll_paced wanted longest came x.old x.added new x.grow (awaits wanted l x.old x.told) x.is (polls_so longest (PollAdds (Ok came)) s t new x within beats alone p) (q.stays stays.1) (l x.old x.told).stands.paced);
     moves = λ wanted l new p. let x = step new p in record { old = x.old; told = x.told; is = (polled wanted new l p x).same };
     fails = λ wanted l. tt;
   }
   poll_ends (Err Flooded) stays lost = poll_floods lost
   poll_ends (Err TunnelLost) stays lost = failed SameRounds e f s t TunnelLost (λ wanted l new p.
       let q = polled wanted new l p (step new p) in
-      (q.lost lost, q.rightly))
+      record { cause = q.lost lost; rightly = q.rightly; paced = poll_until longest e s t g within beats alone wanted l new p })
   poll_ends (Err LinkFailed) stays lost = absurd lost
   poll_ends (Err (GatewayRefused three)) stays lost = absurd lost
   poll_ends (Err (NoMemory want)) stays lost = absurd lost
 
 -- ---- one call after another
 
-same_then : (s t u : Story) → Going SameRounds s t → Going SameRounds t u → Going SameRounds s u
+pub same_then : (s t u : Story) → Going SameRounds s t → Going SameRounds t u → Going SameRounds s u
 same_then s t u a b new p =
     let y = b new p in
     let x = a y.old y.told in

@@ -2,7 +2,7 @@
 use Rattle.std.proofs.lemmas.List.{append_cancel_right}
 use Rattle.std.proofs.lemmas.Bool.{ltb-true, ltb-false}
 use Rattle.std.proofs.Math.Dec.{ltb}
-use Rattle.std.proofs.Common.{◌≡◌, ℕ, ◌≤◌, ◌<◌, ◌⊎◌, inl, inr, List, [], ◌∷◌, ◌++◌, Bool, true, false, ◌||◌, Option, Some, None, Result, Ok, Err, refl, sym, ◌∙◌, ap, subst, append_assoc, arith}
+use Rattle.std.proofs.Common.{◌≡◌, ℕ, ◌≤◌, ◌<◌, inl, inr, List, [], ◌∷◌, ◌++◌, Bool, true, false, ◌||◌, Some, Result, Ok, Err, refl, sym, ◌∙◌, ap, subst, append_assoc, arith}
 use Rattle.knx_model.specs.declared.address.IndAddr.{IndAddr}
 use Rattle.line_model.specs.declared.fault.HubFault.{HubFault}
 use Rattle.line_model.specs.declared.fault.HubFault.TheVariants as hub
@@ -10,8 +10,9 @@ use Rattle.line_model.specs.Reading.{ldata_in}
 use Rattle.knx_model.specs.Outside.{Rose}
 use Rattle.line_model.specs.Asks.{HasPlace}
 use Rattle.line_model.specs.Closing.{asks_to_end, is_open}
+use Rattle.line_model.specs.Haste.{KeepsPaces}
 use Rattle.line_model.specs.Record.{Placed, entries}
-use Rattle.line_model.specs.LinkStory.{Story, places_in}
+use Rattle.line_model.specs.LinkStory.{Story, places_in, newest_time}
 use Rattle.line_model.specs.ClientView.{ClientChannel, Fresh, Sought, RefusedBy, Unanswered, Open, Lost, Deed, Puts, Takes, Loses, Nothing as DoesNothing, channel}
 use Rattle.line_model.specs.Moments.{Moment, moments}
 use Rattle.line_model.specs.Signs.{Every}
@@ -21,9 +22,10 @@ use Rattle.tunnel_link.specs.declared.came.Loss.{Loss}
 use Rattle.tunnel_link.specs.declared.came.Loss.TheVariants.{Stays, Ended, Told}
 use Rattle.tunnel_link.specs.declared.came.What.{What}
 use Rattle.tunnel_link.specs.declared.came.What.TheVariants as came
-use Rattle.tunnel_link.specs.Adds.{Growing, Acts, Leaves, PollAdds, AllNothing, IsNothing, PutsNone, One, OrLoses, DoesSo, AtMostOne, asks_end, moments_on}
+use Rattle.tunnel_link.specs.Adds.{Growing, Acts, Leaves, PollAdds, PutsNone, One, OrLoses, DoesSo, AtMostOne, asks_end, moments_on}
 use Rattle.tunnel_link.specs.Alone.{Each, EndsNone, LeavesAlone, Nothing, Once, SendsOnce}
 use Rattle.tunnel_link.specs.Goes.{GoesOn}
+use Rattle.tunnel_link.specs.Paces.{TakesNoTime}
 use Rattle.tunnel_link.specs.Rights.{FailsWhere, WhereTold}
 use Rattle.tunnel_link.proofs.Acting.{grows_then}
 use Rattle.tunnel_link.proofs.SeekKept.{grows_as}
@@ -31,15 +33,15 @@ use Rattle.tunnel_link.proofs.Stories.{goes_again}
 use Rattle.address_commission.specs.declared.assigned.Assigned.{Assigned}
 use Rattle.address_commission.specs.declared.assigned.AssignFault.{AssignFault}
 use Rattle.address_commission.specs.declared.assigned.AssignFault.TheVariants as fails
-use Rattle.address_commission.specs.Rounds.{Round, after_deed, rounds}
+use Rattle.address_commission.specs.Rounds.{Round, after_deed, rounds, has_lost}
 use Rattle.address_commission.specs.Talk.{TalksRightly}
-use Rattle.address_commission.specs.Going.{ComesFrom, Going, GoOn, GoesOnFrom, SameRounds}
-use Rattle.address_commission.specs.Ends.{AnsweredBy, ClosesSo, EndsOnce, EndsSo, FailsBy, FailsSo, Leaves as LeavesAnswered, LeavesOn, ToldAs, fault_of}
-use Rattle.std.specs.Prelude.{IfErr}
-use Rattle.address_commission.proofs.Calls.{told_ok}
+use Rattle.address_commission.specs.Going.{Going, GoOn, SameRounds}
+use Rattle.address_commission.specs.Ends.{Answered, AnsweredBy, ClosesSo, ComesLate, EndsOnce, EndsSo, FailsBy, FailsSo, HasAwaited, Leaves as LeavesAnswered, LeavesOn, LeavesSince, PaceKept, ToldAs, fault_of}
+use Rattle.std.specs.Prelude.{IfErr, OnOk}
+use Rattle.address_commission.proofs.Leaving.{awaits_after, request_left}
 use Rattle.address_commission.proofs.Folds.{nothing_rounds, one_rounds, NotPuts, PutsNo, nothing_puts, one_puts, not_puts, talks_on}
 use Rattle.address_commission.proofs.Heard.{go_same, go_on, go_frame}
-use Rattle.address_commission.proofs.Steps.{Step, step_of, told_before, some_is}
+use Rattle.address_commission.proofs.Steps.{step_of, told_before, some_is}
 
 go_deed : (d : Deed) (rs : List Round) → NotPuts d → GoOn rs (after_deed d rs)
 go_deed (Puts cemi) rs h = absurd h
@@ -104,6 +106,10 @@ act_closes result wanted s t g h = few_close (Acts result) (act_few result) want
 
 pub poll_closes : (result : Result Came HubFault) (wanted : IndAddr) (s t : Story) → GoesOn s t → Growing (PollAdds result) s t → Going (ClosesSo wanted) s t
 poll_closes result wanted s t g h = few_close (PollAdds result) (poll_few result) wanted s t g h
+
+-- as the rounds go on
+pub goes_same_rounds : (s t : Story) → ((wanted : IndAddr) → Going (ClosesSo wanted) s t) → Going SameRounds s t
+goes_same_rounds s t h new p = let x = h (record { raw = 0 }) new p in record { old = x.old; told = x.told; is = x.is.goes_on.rounds_go_on }
 
 -- ---- one call after another
 
@@ -180,17 +186,24 @@ later_ends old one two r none = record {
   once = subst (λ (z : List Placed). Each EndsNone (z ++ old) two) r.parts none;
 }
 
-pub asked_leaves : (s t u : Story) → GoesOn s t → GoesOn t u → Growing (Leaves (Ok true)) s t → Growing SendsOnce s t → Growing (Each EndsNone) t u → Going LeavesOn s u
-asked_leaves s t u g h leaves once none new p =
-    let all : Growing EndsOnce s u = grows_then Request (Each EndsNone) EndsOnce s t u g h later_ends (asked_by s t leaves once) none in
-    let x = step_of EndsOnce s u new (goes_again s t u g h) all p in
-    record { old = x.old; told = x.told; is = record { added = x.added; all = x.grow; ends = x.is } }
+ends_after : (s t u : Story) → GoesOn s t → GoesOn t u → Growing (Leaves (Ok true)) s t → Growing SendsOnce s t → Growing (Each EndsNone) t u → Growing EndsOnce s u
+ends_after s t u g h leaves once none = grows_then Request (Each EndsNone) EndsOnce s t u g h later_ends (asked_by s t leaves once) none
 
-pub leaves_by : (asked : Bool) (s t u : Story) → GoesOn s t → GoesOn t u → Growing (Leaves (Ok asked)) s t → Growing SendsOnce s t → Growing (Each EndsNone) t u → WhereTold (λ places. HasPlace (channel (entries places))) s → Going LeavesOn s u
-leaves_by true s t u g h leaves once none place = asked_leaves s t u g h leaves once none
-leaves_by false s t u g h leaves once none place = λ new p.
-    let b = told_before s u new (goes_again s t u g h) p in
-    absurd (must_ask s t leaves place b.0 b.1)
+ends_by : (asked : Bool) (s t u : Story) → GoesOn s t → GoesOn t u → Growing (Leaves (Ok asked)) s t → Growing SendsOnce s t → Growing (Each EndsNone) t u → WhereTold (λ places. HasPlace (channel (entries places))) s → Growing EndsOnce s u
+ends_by true s t u g h leaves once none place = ends_after s t u g h leaves once none
+ends_by false s t u g h leaves once none place = λ old p. absurd (must_ask s t leaves place old p)
+
+module _ (call : Result Bool HubFault) (began : ℕ) (s t u : Story) (g : GoesOn s t) (h : GoesOn t u) (leaves : Growing (Leaves call) s t) (once : Growing SendsOnce s t) (time : Growing (Each TakesNoTime) s t) (none : Growing (Each EndsNone) t u)
+    (place : WhereTold (λ places. HasPlace (channel (entries places))) s) (kept : WhereTold (λ places. has_lost (moments places) ≡ false) s) (now : WhereTold (λ places. began ≡ newest_time (entries places)) s) where
+  leaves_on : (asked : Bool) → call ≡ Ok asked → ((talk : List Placed) → newest_time (entries talk) ≡ began → WhereTold (LeavesSince 64 talk) t → WhereTold (HasAwaited talk) u) → Going LeavesOn s u
+  leaves_on asked is awaited new p =
+      let b = told_before s u new (goes_again s t u g h) p in
+      let ends : Growing EndsOnce s u = ends_by asked s t u g h (subst (λ (r : Result Bool HubFault). Growing (Leaves r) s t) is leaves) once none place in
+      awaits_after s u b.0 b.1 (goes_again s t u g h) ends (awaited b.0 (sym (now b.0 b.1)) (request_left call b.0 s t g leaves once time b.1 kept)) new p
+
+  pub leaves_so : {X : Type 0} (asked : Bool) → call ≡ Ok asked → (result : Result X AssignFault) → OnOk result ((talk : List Placed) → newest_time (entries talk) ≡ began → WhereTold (LeavesSince 64 talk) t → WhereTold (HasAwaited talk) u) → OnOk result (Going LeavesOn s u)
+  leaves_so asked is (Ok x) awaited = leaves_on asked is awaited
+  leaves_so asked is (Err why) awaited = tt
 
 -- a count that rose has risen still
 pub rose_on : (a b c : ℕ) → a ≤ b → b ≤ c → Rose a b → Rose a c
@@ -206,21 +219,7 @@ rose_from a b c m (inr top) = inr top
 
 -- ---- by what was told of it
 
-pub leaves_told : (call : Result Bool HubFault) (asked : Bool) → ToldAs call (Ok asked) → (s t : Story) → Growing (Leaves call) s t → Growing (Leaves (Ok asked)) s t
-leaves_told call asked told s t g = subst (λ (r : Result Bool HubFault). Growing (Leaves r) s t) (told_ok call asked told) g
-
-failed_rose : (call : Result Bool HubFault) (old new : ℕ) → ToldAs {X = Bool} call (Err fails.LinkFailed) → IfErr call (λ fault. FailsWhere fault old new) → Rose old new
-failed_rose (Ok asked) old new told cause = absurd (cc)
-failed_rose (Err (hub.NoMemory want)) old new told cause = absurd (cc)
-failed_rose (Err hub.LinkFailed) old new told cause = cause
-failed_rose (Err (hub.GatewayRefused three)) old new told cause = absurd (cc)
-failed_rose (Err hub.Flooded) old new told cause = absurd (cc)
-failed_rose (Err (hub.WrongLine device tunnel)) old new told cause = absurd (cc)
-
-pub failed_by : (call : Result Bool HubFault) (why : AssignFault) (old new : ℕ) → ToldAs call (Err why) → why ≡ fails.LinkFailed → IfErr call (λ fault. FailsWhere fault old new) → Rose old new
-failed_by call why old new told is cause = failed_rose call old new (subst (λ (z : AssignFault). ToldAs {X = Bool} call (Err z)) is told) cause
-
-same_fault : (why other : AssignFault) → (let one : Result Bool AssignFault = Err why in one) ≡ Err other → other ≡ why
+same_fault : {X : Type 0} (why other : AssignFault) → (let one : Result X AssignFault = Err why in one) ≡ Err other → other ≡ why
 same_fault why other e = cc
 
 by_fault : (fault : HubFault) (old new : ℕ) → FailsWhere fault old new → FailsBy (fault_of fault) old new
@@ -230,14 +229,26 @@ by_fault (hub.GatewayRefused three) old new h = tt
 by_fault hub.Flooded old new h = tt
 by_fault (hub.WrongLine device tunnel) old new h = tt
 
-pub fails_by : (call : Result Bool HubFault) (why : AssignFault) (old new : ℕ) → ToldAs call (Err why) → IfErr call (λ fault. FailsWhere fault old new) → FailsBy why old new
+pub fails_by : {X : Type 0} (call : Result X HubFault) (why : AssignFault) (old new : ℕ) → ToldAs call (Err why) → IfErr call (λ fault. FailsWhere fault old new) → FailsBy why old new
 fails_by (Ok asked) why old new told cause = absurd (cc)
-fails_by (Err fault) why old new told cause = subst (λ (z : AssignFault). FailsBy z old new) (same_fault why (fault_of fault) told) (by_fault fault old new cause)
+fails_by {X = X} (Err fault) why old new told cause = subst (λ (z : AssignFault). FailsBy z old new) (same_fault {X = X} why (fault_of fault) told) (by_fault fault old new cause)
+
+-- a failing link is told only where its count rose
+pub failed_by : (why : AssignFault) (old new : ℕ) → why ≡ fails.LinkFailed → FailsBy why old new → Rose old new
+failed_by why old new is h = subst (λ (z : AssignFault). FailsBy z old new) is h
 
 -- ---- after an answer
 
-pub closing_fails : (wanted : IndAddr) (assigned : Assigned) (why : AssignFault) (s t : Story) → WhereTold (AnsweredBy wanted assigned) s → Going (ClosesSo wanted) s t → WhereTold (FailsSo why) t → WhereTold (EndsSo wanted (Err why)) t
-closing_fails wanted assigned why s t a c f new p = let x = c new p in (f new p, x.is.rightly (a x.old x.told).stands.rightly)
+pub answered_at : (wanted : IndAddr) (assigned : Assigned) (s t : Story) → WhereTold (AnsweredBy wanted assigned) s → Going (ClosesSo wanted) s t → Going PaceKept s t → WhereTold (Answered wanted assigned) t
+answered_at wanted assigned s t a c k new p =
+    let x = c new p in
+    let y = k new p in
+    let same : y.old ≡ x.old = some_is y.old x.old (sym y.told ∙ x.told) in
+    let by = a x.old x.told in
+    record { talk = x.old; answered = by; closes = x.is.goes_on; rightly = x.is.rightly by.stands.rightly; keeps = y.is (subst (λ (z : List Placed). KeepsPaces (entries z)) (sym same) by.stands.paced.keeps) }
+
+pub closing_fails : (wanted : IndAddr) (assigned : Assigned) (why : AssignFault) (s t : Story) → WhereTold (AnsweredBy wanted assigned) s → Going (ClosesSo wanted) s t → Going PaceKept s t → WhereTold (FailsSo why) t → ComesLate why → WhereTold (EndsSo wanted (Err why)) t
+closing_fails wanted assigned why s t a c k f late new p = inr (record { cause = f new p; late = late; assigned = assigned; answered = answered_at wanted assigned s t a c k new p })
 
 pub left_so : (wanted : IndAddr) (assigned : Assigned) (s t : Story) → WhereTold (AnsweredBy wanted assigned) s → Going LeavesOn s t → WhereTold (LeavesAnswered wanted assigned) t
 left_so wanted assigned s t a l new p = let x = l new p in record { talk = x.old; answered = a x.old x.told; leaves = x.is }

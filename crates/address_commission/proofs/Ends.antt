@@ -1,8 +1,6 @@
 -- The whole of it: how it ends, and what it keeps of the units.
-use Rattle.std.proofs.Common.{◌≡◌, ℕ, List, [], ◌∷◌, Bool, true, false, Option, Some, None, Result, Ok, Err, refl, sym, ◌∙◌, ap, subst, arith}
-use Rattle.std.specs.Prelude.{IfOk, IfErr}
+use Rattle.std.proofs.Common.{◌≡◌, List, [], ◌∷◌, Some, None, Result, Ok, Err, refl, sym, ◌∙◌, ap, subst, inl, inr, arith}
 use Rattle.knx_model.specs.declared.address.IndAddr.{IndAddr}
-use Rattle.knx_model.specs.declared.frames.cemi.Ldata.{Ldata}
 use Rattle.line_model.specs.Asks.{HasPlace}
 use Rattle.line_model.specs.Moments.{moments}
 use Rattle.line_model.specs.Record.{Entry, Placed, entries, counted, placed}
@@ -25,7 +23,7 @@ use Rattle.address_commission.specs.declared.ear.Heard.TheVariants as ear
 use Rattle.address_commission.specs.Rounds.{Round, rounds}
 use Rattle.address_commission.specs.Listening.{Listens, Begins}
 use Rattle.address_commission.specs.Going.{Going, GoOn, SameRounds}
-use Rattle.address_commission.specs.Ends.{AnsweredBy, Answered, EndsSo, TalkFails, ClosesSo}
+use Rattle.address_commission.specs.Ends.{EndsSo, FailsRightly}
 
 -- ---- each request that was put is one of the three
 
@@ -41,15 +39,13 @@ all_first wanted (p ∷ older) h = (first_by wanted older (deed (channel (entrie
 
 -- ---- how it ends
 
-pub answered_ends : (wanted : IndAddr) (assigned : Assigned) (s t : Story) → WhereTold (AnsweredBy wanted assigned) s → Going (ClosesSo wanted) s t → WhereTold (EndsSo wanted (Ok assigned)) t
-answered_ends wanted assigned s t a c new p =
-    let x = c new p in
-    let by = a x.old x.told in
-    record { talk = x.old; answered = by; closes = x.is.goes_on; rightly = x.is.rightly by.stands.rightly }
-
 pub ends_rightly : (wanted : IndAddr) (result : Result Assigned AssignFault) (places : List Placed) → EndsSo wanted result places → TalksRightly wanted places
 ends_rightly wanted (Ok assigned) places h = h.rightly
-ends_rightly wanted (Err fault) places h = h.1
+ends_rightly wanted (Err fault) places (inl h) = h.rightly
+ends_rightly wanted (Err fault) places (inr h) = h.answered.rightly
+
+pub fails_before : (wanted : IndAddr) (why : AssignFault) (t : Story) → WhereTold (FailsRightly wanted why) t → WhereTold (EndsSo wanted (Err why)) t
+fails_before wanted why t h new p = inl (h new p)
 
 -- ---- the units
 
@@ -78,7 +74,7 @@ new_places (Recorded r) n places e = sym (some_is (counted r) places e) ∙ ap c
 new_places (Full start events) n places e = sym (some_is (placed start events) places e) ∙ ap (placed start) n.0
 
 nothing_yet : (wanted : IndAddr) (e : Ear) → e ≡ record { heard = ear.Nobody; confirmed = None; since = 0 } → Listens wanted e []
-nothing_yet wanted e is = record { stands = record { rightly = tt; kept = refl; few = omega arith }; hears = record { rounds_so = tt; since = ap (λ (x : Ear). x.since) is } }
+nothing_yet wanted e is = record { stands = record { rightly = tt; kept = refl; few = omega arith; paced = record { keeps = tt; stays_open = tt; waits = tt } }; hears = record { rounds_so = tt; since = ap (λ (x : Ear). x.since) is } }
 
 pub new_listens : (wanted : IndAddr) (e : Ear) (s : Story) → e ≡ record { heard = ear.Nobody; confirmed = None; since = 0 } → IsNewLink s → WhereTold (Listens wanted e) s
 new_listens wanted e s is n places p = subst (Listens wanted e) (sym (new_places s n places p)) (nothing_yet wanted e is)

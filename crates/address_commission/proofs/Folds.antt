@@ -1,8 +1,8 @@
 -- What is read off moments and entries, over those that a call adds.
-use Rattle.std.proofs.Common.{◌≡◌, ℕ, suc, ◌<◌, ◌≤◌, List, [], ◌∷◌, ◌++◌, Bool, true, false, cond, ◌||◌, Option, Some, None, refl, sym, ◌∙◌, ap, subst, arith}
+use Rattle.std.proofs.Common.{◌≡◌, ℕ, suc, ◌≤◌, List, [], ◌∷◌, ◌++◌, Bool, true, false, cond, ◌||◌, refl, sym, ◌∙◌, ap, subst, arith}
 use Rattle.std.specs.List.{AllByRecursion, list_any}
 use Rattle.knx_model.specs.declared.address.IndAddr.{IndAddr}
-use Rattle.line_model.specs.Record.{Item, Put, Renewed, Got, Quiet, Entry, Placed, entries, is_got, is_poll}
+use Rattle.line_model.specs.Record.{Item, Put, Renewed, Got, Quiet, Placed, entries, is_got, is_poll}
 use Rattle.line_model.specs.ClientView.{Deed, Puts, Takes, Loses, Nothing, channel, deed}
 use Rattle.line_model.specs.Faults.{is_counted, datagrams_taken}
 use Rattle.line_model.specs.Moments.{Moment, is_loss}
@@ -81,17 +81,17 @@ abbrev pub NoGot : List Placed → Type 0
 NoGot [] = Unit {0}
 NoGot (p ∷ l) = (is_got p.what.what ≡ false) × NoGot l
 
-not_got : (what : Item) → is_poll what ≡ false → is_got what ≡ false
+pub not_got : (what : Item) → is_poll what ≡ false → is_got what ≡ false
 not_got (Put octets) h = refl
 not_got Renewed h = refl
 not_got (Got octets) h = absurd (cc)
 not_got Quiet h = refl
 
-left_false : (a b : Bool) → (a || b) ≡ false → a ≡ false
+pub left_false : (a b : Bool) → (a || b) ≡ false → a ≡ false
 left_false true b h = h
 left_false false b h = refl
 
-right_false : (a b : Bool) → (a || b) ≡ false → b ≡ false
+pub right_false : (a b : Bool) → (a || b) ≡ false → b ≡ false
 right_false true b h = absurd (cc)
 right_false false b h = h
 

@@ -1,26 +1,24 @@
 -- The search, and what comes of the talk.
-use Rattle.std.proofs.Common.{◌≡◌, ◌≢◌, ℕ, suc, ◌+◌, ◌<◌, ◌≤◌, List, [], ◌∷◌, ◌++◌, length, Bool, true, false, cond, Option, Some, None, Result, Ok, Err, refl, sym, ◌∙◌, ap, subst, append_assoc, arith}
-use Rattle.std.specs.Prelude.{OnOk, IfErr}
+use Rattle.std.proofs.Common.{◌≡◌, ◌≢◌, ℕ, suc, ◌<◌, List, [], ◌∷◌, ◌++◌, length, Bool, true, false, Option, Some, None, Result, Ok, Err, refl, sym, ◌∙◌, ap, subst, append_assoc, arith}
+use Rattle.std.specs.Prelude.{OnOk}
 use Rattle.knx_model.specs.declared.address.IndAddr.{IndAddr}
-use Rattle.line_model.specs.Record.{Placed, entries}
-use Rattle.line_model.specs.LinkStory.{Story, places_in}
+use Rattle.line_model.specs.Record.{Placed}
+use Rattle.line_model.specs.LinkStory.{Story}
 use Rattle.line_model.specs.Moments.{moments}
 use Rattle.tunnel_link.specs.Rights.{WhereTold}
-use Rattle.address_world.specs.declared.asked.Asked.{Asked}
 use Rattle.address_world.specs.declared.asked.Asked.TheVariants.{Read, Connect, Disconnect, Write}
-use Rattle.address_world.specs.Keeps.{frame_of}
 use Rattle.address_commission.specs.declared.assigned.AssignFault.{AssignFault}
 use Rattle.address_commission.specs.declared.assigned.Assigned.{Assigned}
 use Rattle.address_commission.specs.declared.assigned.Assigned.TheVariants.{Done, NoUnit, Several, Taken, Unconfirmed}
 use Rattle.address_commission.specs.declared.ear.Ear.{Ear}
 use Rattle.address_commission.specs.declared.ear.Heard.{Heard}
 use Rattle.address_commission.specs.declared.ear.Heard.TheVariants as ear
-use Rattle.address_commission.specs.Rounds.{Round, rounds, is_read, answers}
-use Rattle.address_commission.specs.Talk.{AsksFor, IsSilent, AllSilent, Searches, OneOther, SeveralAnswer, MayAsk, ReadsFirst, Connects, Disconnects, Writes, ReadsLast, Gives, NobodyAnswers, HasItAlready, ManyAnswer, ManyAnswerLate, AnotherHasIt, HasItNow, IsntSure}
+use Rattle.address_commission.specs.Rounds.{Round, rounds, answers}
+use Rattle.address_commission.specs.Talk.{AsksFor, AllSilent, Searches, OneOther, MayAsk, ReadsFirst, Connects, Disconnects, Writes, ReadsLast, Gives, NobodyAnswers, HasItAlready, ManyAnswer, ManyAnswerLate, AnotherHasIt, HasItNow, IsntSure}
 use Rattle.address_commission.specs.Going.{Going, OneMore, AsksOne}
 use Rattle.address_commission.specs.Listening.{HeardSo, HearsRounds, Listens, Begins, IsTurnTo, IsOut, SearchedSo, FoundSo, TriedBy, SureSo}
 use Rattle.address_commission.specs.Ends.{AnsweredBy}
-use Rattle.address_commission.proofs.Asks.{read_is, other_isnt}
+use Rattle.address_commission.proofs.Asks.{read_is}
 
 -- ---- so many reads that nobody answered before the newest one
 

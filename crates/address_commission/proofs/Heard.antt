@@ -3,8 +3,8 @@ use Rattle.std.proofs.Common.{◌≡◌, ℕ, ◌⊎◌, inl, inr, List, [], ◌
 use Rattle.knx_model.specs.declared.address.IndAddr.{IndAddr}
 use Rattle.knx_model.specs.declared.frames.cemi.Ldata.{Ldata}
 use Rattle.line_model.specs.Reading.{ldata_in}
-use Rattle.line_model.specs.Record.{Item, Put, Renewed, Got, Quiet, Entry, is_got}
-use Rattle.line_model.specs.ClientView.{Deed, Puts, Takes, Loses, Nothing}
+use Rattle.line_model.specs.Record.{Entry, is_got}
+use Rattle.line_model.specs.ClientView.{Deed, Takes, Loses}
 use Rattle.line_model.specs.Moments.{Moment, is_loss}
 use Rattle.line_model.specs.Signs.{Every}
 use Rattle.tunnel_link.specs.declared.came.Loss.{Loss}

@@ -1,8 +1,10 @@
 pub mod Folds
 pub mod Heard
 pub mod Steps
+pub mod Pacing
 pub mod Calls
 pub mod Asks
 pub mod Gives
+pub mod Leaving
 pub mod Closing
 pub mod Ends

@@ -1,23 +1,23 @@
 -- A call's step from the places before it to those after it.
-use Rattle.std.proofs.Common.{◌≡◌, ℕ, suc, ◌<◌, ◌≤◌, List, [], ◌∷◌, ◌++◌, Bool, true, false, Option, Some, None, refl, sym, ◌∙◌, ap, subst, arith}
+use Rattle.std.proofs.Common.{◌≡◌, ℕ, suc, ◌<◌, ◌≤◌, List, ◌++◌, true, false, Some, None, refl, sym, ◌∙◌, ap, subst, arith}
 use Rattle.std.specs.List.{list_any}
 use Rattle.knx_model.specs.declared.address.IndAddr.{IndAddr}
-use Rattle.line_model.specs.Record.{Entry, Placed, placed, counted, entries, is_poll}
+use Rattle.line_model.specs.Record.{Placed, placed, counted, entries, is_poll}
 use Rattle.line_model.specs.LinkStory.{Story, Untold, Recorded, Full, places_in, newest_time}
 use Rattle.line_model.specs.Faults.{datagrams_taken, flood}
 use Rattle.line_model.specs.Moments.{Moment, moments}
-use Rattle.line_model.specs.Signs.{Every}
 use Rattle.tunnel_link.specs.declared.came.Came.{Came}
 use Rattle.tunnel_link.specs.declared.came.Loss.{Loss}
 use Rattle.tunnel_link.specs.declared.came.Loss.TheVariants.{Stays}
-use Rattle.tunnel_link.specs.Adds.{Added, Grows, Growing, place_of, moments_on, AllNothing, Brings}
+use Rattle.tunnel_link.specs.Adds.{Growing, moments_on, AllNothing, Brings}
 use Rattle.tunnel_link.specs.Goes.{GoesOn}
-use Rattle.address_commission.specs.Rounds.{Round, rounds, quiet_since, has_lost}
+use Rattle.address_commission.specs.Rounds.{rounds, quiet_since, has_lost}
 use Rattle.address_commission.specs.Talk.{TalksRightly}
+use Rattle.address_commission.specs.Pace.{Paced}
 use Rattle.address_commission.specs.Going.{GoOn, SameRounds}
-use Rattle.address_commission.specs.Listening.{HearsRounds, Hears, HearsWhat, Stands, Listens}
+use Rattle.address_commission.specs.Listening.{HearsRounds, Hears, HearsWhat, Listens}
 use Rattle.address_commission.specs.declared.ear.Ear.{Ear}
-use Rattle.address_commission.proofs.Folds.{nothing_rounds, nothing_lost, nothing_puts, PutsNo, talks_on, NoGot, sends_no_got, quiet_no_got, quiet_on, count_on, poll_quiet, poll_count}
+use Rattle.address_commission.proofs.Folds.{nothing_rounds, nothing_lost, nothing_puts, talks_on, NoGot, sends_no_got, quiet_no_got, quiet_on, count_on, poll_quiet, poll_count}
 use Rattle.address_commission.proofs.Heard.{go_same, Hearing, poll_heard, poll_since}
 
 pub some_is : {X : Type 0} (x y : X) → Some x ≡ Some y → x ≡ y
@@ -61,8 +61,8 @@ module _ (wanted : IndAddr) (e : Ear) (old added new : List Placed) (grow : new 
   pub nothing_same : AllNothing old added → SameRounds old new
   nothing_same n = subst (GoOn (rounds (moments old))) (sym (ap rounds more ∙ nothing_rounds (moments_on old added) (moments old) n)) (go_same (rounds (moments old)))
 
-  pub nothing_listens : AllNothing old added → list_any (λ (p : Placed). is_poll p.what.what) added ≡ false → Listens wanted e old → Listens wanted e new
-  nothing_listens n q l =
+  pub nothing_listens : AllNothing old added → list_any (λ (p : Placed). is_poll p.what.what) added ≡ false → Paced wanted new → Listens wanted e old → Listens wanted e new
+  nothing_listens n q paced l =
       let none : NoGot added = sends_no_got added q in
       let same : rounds (moments new) ≡ rounds (moments old) = ap rounds more ∙ nothing_rounds (moments_on old added) (moments old) n in
       let count : datagrams_taken (entries new) ≡ datagrams_taken (entries old) = ap (λ (z : List Placed). datagrams_taken (entries z)) grow ∙ count_on added old none in
@@ -72,6 +72,7 @@ module _ (wanted : IndAddr) (e : Ear) (old added new : List Placed) (grow : new 
           rightly = nothing_talks n l.stands.rightly;
           kept = ap has_lost more ∙ nothing_lost (moments_on old added) (moments old) n ∙ l.stands.kept;
           few = subst (λ (z : ℕ). z < flood) (sym count) l.stands.few;
+          paced = paced;
         };
         hears = record { rounds_so = subst (HearsRounds e) (sym same) l.hears.rounds_so; since = l.hears.since ∙ sym quiet };
       }
@@ -109,5 +110,5 @@ poll_step wanted e f came now old added new grow more b w t l =
       at_most = omega (arith, count, l.stands.few);
     }
 
-pub polled_listens : (wanted : IndAddr) (f : Ear) (loss : Loss) (old new : List Placed) → Polled wanted f loss old new → loss ≡ Stays → datagrams_taken (entries new) < flood → Listens wanted f new
-polled_listens wanted f loss old new p s few = record { stands = record { rightly = p.rightly; kept = p.stays s; few = few }; hears = p.hears }
+pub polled_listens : (wanted : IndAddr) (f : Ear) (loss : Loss) (old new : List Placed) → Polled wanted f loss old new → loss ≡ Stays → datagrams_taken (entries new) < flood → Paced wanted new → Listens wanted f new
+polled_listens wanted f loss old new p s few paced = record { stands = record { rightly = p.rightly; kept = p.stays s; few = few; paced = paced }; hears = p.hears }

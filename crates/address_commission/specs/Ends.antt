@@ -1,19 +1,26 @@
 -- How giving an address ends, by the link's record: what came of it is read off the talk, in which the channel wasn't lost and few datagrams came;
 -- after that the channel is ended, and no request is put. A fault comes exactly at its cause.
-use Rattle.std.specs.Prelude.{◌≡◌, ℕ, ◌<◌, ◌≤◌, true, List, [], ◌∷◌, ◌++◌, reverse, Result, Ok, Err, OnOk, IfErr}
+use Rattle.std.specs.Prelude.{◌≡◌, ◌⊎◌, ℕ, suc, ◌+◌, ◌-◌, ◌≤◌, true, false, List, [], ◌∷◌, ◌++◌, reverse, if◌then◌else◌, Result, Ok, Err, OnOk, IfErr}
 use Rattle.knx_model.specs.declared.address.IndAddr.{IndAddr}
 use Rattle.knx_model.specs.Outside.{Rose}
 use Rattle.line_model.specs.declared.fault.HubFault.{HubFault}
 use Rattle.line_model.specs.declared.fault.HubFault.TheVariants as hub
 use Rattle.line_model.specs.Asks.{HasPlace}
 use Rattle.line_model.specs.ClientView.{channel}
-use Rattle.line_model.specs.Closing.{asks_to_end}
-use Rattle.line_model.specs.Record.{Placed, entries}
+use Rattle.line_model.specs.ChannelLost.{answer_wait}
+use Rattle.line_model.specs.Closing.{asks_to_end, most_datagrams}
+use Rattle.line_model.specs.Haste.{KeepsPaces}
+use Rattle.line_model.specs.Record.{Placed, entries, is_got}
+use Rattle.line_model.specs.Waiting.{longest_poll}
 use Rattle.line_model.specs.Moments.{moments}
 use Rattle.line_model.specs.Faults.{datagrams_taken, flood, tries}
 use Rattle.address_commission.specs.Rounds.{rounds, has_lost}
+use Rattle.address_commission.specs.Pace.{PacedUntil}
 use Rattle.address_commission.specs.Talk.{Gives, HeardOut, TalksRightly}
-use Rattle.line_model.specs.LinkStory.{Story}
+use Rattle.line_model.specs.LinkStory.{Story, newest_time}
+use Rattle.tunnel_link.specs.declared.came.Came.{Came}
+use Rattle.tunnel_link.specs.declared.came.What.{What}
+use Rattle.tunnel_link.specs.declared.came.What.TheVariants as came
 use Rattle.tunnel_link.specs.declared.came.Loss.{Loss}
 use Rattle.tunnel_link.specs.declared.came.Loss.TheVariants.{Stays}
 use Rattle.tunnel_link.specs.Alone.{Each, EndsNone}
@@ -49,6 +56,7 @@ pub record Answered (wanted : IndAddr) (assigned : Assigned) (places : List Plac
   pub answered : AnsweredBy wanted assigned talk
   pub closes : GoesOnFrom talk places
   pub rightly : TalksRightly wanted places
+  pub keeps : KeepsPaces (entries places)
 
 -- ---- the end of the channel
 
@@ -60,11 +68,28 @@ pub record EndsOnce (old added : List Placed) : Type 0 where
   pub asks : asks_to_end request.what ≡ true
   pub once : Each EndsNone (request ∷ old) later
 
+-- The response is awaited: until the channel was lost, as it is by the response, 10,000 ms passed or 64 datagrams came; and no longer. Where it was lost,
+-- that was in the last poll.
+abbrev pub datagrams_in : List Placed → ℕ
+datagrams_in [] = 0
+datagrams_in (p ∷ added) = if is_got p.what.what then suc (datagrams_in added) else datagrams_in added
+
+pub record AwaitsResponse (old added : List Placed) : Type 0 where
+  pub over : (has_lost (moments (added ++ old)) ≡ true) ⊎ ((newest_time (entries (added ++ old)) ≡ newest_time (entries old) + answer_wait) ⊎ (datagrams_in added ≡ most_datagrams))
+  pub in_time : newest_time (entries (added ++ old)) ≤ newest_time (entries old) + answer_wait
+  pub few : datagrams_in added ≤ most_datagrams
+  pub last : List Placed
+  pub older : List Placed
+  pub parts : added ≡ last ++ older
+  pub kept : has_lost (moments (older ++ old)) ≡ false
+  pub short : newest_time (entries (added ++ old)) ≤ newest_time (entries (older ++ old)) + longest_poll
+
 -- after these places
 pub record LeavesOn (old new : List Placed) : Type 0 where
   pub added : List Placed
   pub all : new ≡ added ++ old
   pub ends : EndsOnce old added
+  pub awaits : AwaitsResponse old added
 
 -- after the answer
 pub record Leaves (wanted : IndAddr) (assigned : Assigned) (places : List Placed) : Type 0 where
@@ -81,9 +106,29 @@ FailsSo (GatewayRefused three) places = tries (entries places) ≡ reverse three
 FailsSo Flooded places = datagrams_taken (entries places) ≡ flood
 FailsSo (NoMemory want) places = Unit {0}
 
+-- before there was an answer
+pub record FailsRightly (wanted : IndAddr) (fault : AssignFault) (places : List Placed) : Type 0 where
+  pub cause : FailsSo fault places
+  pub rightly : TalksRightly wanted places
+  pub paced : PacedUntil wanted places
+
+-- after it, at the end of the channel: not for the loss of the channel, nor for a failing link, nor for a flood
+abbrev pub ComesLate : AssignFault → Type 0
+ComesLate TunnelLost = ⊥
+ComesLate LinkFailed = ⊥
+ComesLate (GatewayRefused three) = Unit {0}
+ComesLate Flooded = ⊥
+ComesLate (NoMemory want) = Unit {0}
+
+pub record FailsLate (wanted : IndAddr) (fault : AssignFault) (places : List Placed) : Type 0 where
+  pub cause : FailsSo fault places
+  pub late : ComesLate fault
+  pub assigned : Assigned
+  pub answered : Answered wanted assigned places
+
 abbrev pub EndsSo : IndAddr → Result Assigned AssignFault → List Placed → Type 0
 EndsSo wanted (Ok assigned) places = Answered wanted assigned places
-EndsSo wanted (Err fault) places = FailsSo fault places × TalksRightly wanted places
+EndsSo wanted (Err fault) places = FailsRightly wanted fault places ⊎ FailsLate wanted fault places
 
 -- that the link failed is told only where its count of faults rose
 abbrev pub FailsBy : AssignFault → ℕ → ℕ → Type 0
@@ -116,19 +161,48 @@ CausedBy (Err fault) places = FailsSo fault places
 pub record TalkGoes {X : Type 0} (P : List Placed → List Placed → Type 0) (e f : Ear) (before after : Story) (result : Result X AssignFault) : Type 0 where
   pub listens : (wanted : IndAddr) → WhereTold (Listens wanted e) before → OnOk result (WhereTold (Listens wanted f) after)
   pub moves : (wanted : IndAddr) → WhereTold (Listens wanted e) before → OnOk result (Going P before after)
-  pub fails : (wanted : IndAddr) → WhereTold (Listens wanted e) before → IfErr result (λ fault. WhereTold (λ places. FailsSo fault places × TalksRightly wanted places) after)
+  pub fails : (wanted : IndAddr) → WhereTold (Listens wanted e) before → IfErr result (λ fault. WhereTold (FailsRightly wanted fault) after)
 
 -- the same of a call that puts a request, whose turn has come: where it listened before it does afterwards, and the newest round is the request's
 pub record AsksGoes {X : Type 0} (wanted : IndAddr) (asked : Asked) (e f : Ear) (before after : Story) (result : Result X AssignFault) : Type 0 where
   pub listens : WhereTold (Listens wanted e) before → OnOk result (WhereTold (Listens wanted f) after)
   pub moves : WhereTold (Listens wanted e) before → OnOk result (Going (AsksOne wanted asked) before after)
-  pub fails : WhereTold (Listens wanted e) before → IfErr result (λ fault. WhereTold (λ places. FailsSo fault places × TalksRightly wanted places) after)
+  pub fails : WhereTold (Listens wanted e) before → IfErr result (λ fault. WhereTold (FailsRightly wanted fault) after)
 
 -- it failed at its cause, and all that was put was rightly put
 abbrev pub TalkFails : {X : Type 0} → IndAddr → Story → Result X AssignFault → Type 0
-TalkFails wanted after result = IfErr result (λ fault. WhereTold (λ places. FailsSo fault places × TalksRightly wanted places) after)
+TalkFails wanted after result = IfErr result (λ fault. WhereTold (FailsRightly wanted fault) after)
 
 -- the end of the channel: no request is put
 pub record ClosesSo (wanted : IndAddr) (old new : List Placed) : Type 0 where
   pub goes_on : GoesOnFrom old new
   pub rightly : TalksRightly wanted old → TalksRightly wanted new
+
+-- the pace is kept on
+abbrev pub PaceKept : List Placed → List Placed → Type 0
+PaceKept old new = KeepsPaces (entries old) → KeepsPaces (entries new)
+
+-- ---- while the response is awaited, behind this talk: so many datagrams may still come
+
+pub record LeavesSince (left : ℕ) (talk places : List Placed) : Type 0 where
+  pub added : List Placed
+  pub all : places ≡ added ++ talk
+  pub kept : has_lost (moments places) ≡ false
+  pub in_time : newest_time (entries places) ≤ newest_time (entries talk) + answer_wait
+  pub count : datagrams_in added + left ≡ most_datagrams
+
+pub record HasAwaited (talk places : List Placed) : Type 0 where
+  pub added : List Placed
+  pub all : places ≡ added ++ talk
+  pub awaits : AwaitsResponse talk added
+
+abbrev pub got_one : What → ℕ
+got_one came.Quiet = 0
+got_one came.Dropped = 1
+got_one came.Tunnel = 1
+got_one (came.Up tunnel) = 1
+got_one (came.Frame frame) = 1
+
+-- after a poll the channel stays, and so many fewer may come; or it was lost
+abbrev pub LeftOn : Came → ℕ → List Placed → List Placed → Type 0
+LeftOn polled left talk places = (polled.loss ≡ Stays → LeavesSince (left - got_one polled.what) talk places) × ((polled.loss ≡ Stays → ⊥) → HasAwaited talk places)

@@ -1,6 +1,6 @@
 -- What a client keeps of the talk while it gives an address: who answered the last read, whether its newest request is confirmed, and when a
 -- datagram came last. And what holds of the record as long as no answer is given: the channel wasn't lost, and few datagrams came.
-use Rattle.std.specs.Prelude.{◌≡◌, ◌≢◌, ℕ, ◌-◌, ◌<◌, ◌≤◌, Bool, true, false, List, [], ◌∷◌, length, Option, Some, None}
+use Rattle.std.specs.Prelude.{◌≡◌, ◌≢◌, ◌⊎◌, ℕ, ◌+◌, ◌-◌, ◌<◌, ◌≤◌, Bool, true, false, List, [], ◌∷◌, length, Option, Some, None}
 use Rattle.knx_model.specs.declared.address.IndAddr.{IndAddr}
 use Rattle.knx_model.specs.declared.frames.cemi.Ldata.{Ldata}
 use Rattle.line_model.specs.Asks.{HasPlace}
@@ -14,7 +14,8 @@ use Rattle.line_model.specs.Record.{Placed, entries}
 use Rattle.line_model.specs.Moments.{moments}
 use Rattle.line_model.specs.Faults.{datagrams_taken, flood}
 use Rattle.address_commission.specs.Rounds.{Round, rounds, answers, and_answer, answer_in, confirmed_by, quiet_since, has_lost}
-use Rattle.address_commission.specs.Talk.{AllSilent, Searches, SeveralAnswer, MayAsk, HeardOut, listening_wait, TalksRightly}
+use Rattle.address_commission.specs.Pace.{Paced}
+use Rattle.address_commission.specs.Talk.{AllSilent, Searches, SeveralAnswer, AsksFor, MayAsk, HeardOut, HeardOutBy, listening_wait, TalksRightly}
 use Rattle.address_commission.specs.declared.assigned.Assigned.{Assigned}
 use Rattle.address_commission.specs.declared.assigned.Assigned.TheVariants.{Done, NoUnit, Several, Taken, Unconfirmed}
 use Rattle.address_commission.specs.declared.ear.Ear.{Ear}
@@ -40,6 +41,7 @@ pub record Stands (wanted : IndAddr) (places : List Placed) : Type 0 where
   pub rightly : TalksRightly wanted places
   pub kept : has_lost (moments places) ≡ false
   pub few : datagrams_taken (entries places) < flood
+  pub paced : Paced wanted places
 
 pub record Listens (wanted : IndAddr) (e : Ear) (places : List Placed) : Type 0 where
   pub stands : Stands wanted places
@@ -72,6 +74,17 @@ pub record HasWaited (quiet : ℕ) (e : Ear) (places : List Placed) : Type 0 whe
   pub place : HasPlace (channel (entries places))
   pub confirmed : e.confirmed ≢ None
   pub enough : quiet ≤ newest_time (entries places) - e.since
+
+-- ---- a wait: for so much quiet, which isn't none only where the newest request is a read
+
+abbrev pub ListensFor : ℕ → List Round → Type 0
+ListensFor quiet [] = ⊥
+ListensFor quiet (r ∷ rs) = (quiet ≡ 0) ⊎ ((quiet ≡ listening_wait) × ((wanted : IndAddr) → AsksFor wanted asked.Read r))
+
+-- for so many milliseconds something is still awaited
+abbrev pub AwaitsFor : IndAddr → ℕ → List Placed → Type 0
+AwaitsFor wanted longest places =
+    (now : ℕ) → now < newest_time (entries places) + longest → HasPlace (channel (entries places)) → ¬ HeardOutBy wanted (rounds (moments places)) (quiet_since (entries places)) now
 
 -- ---- a request's turn has come
 

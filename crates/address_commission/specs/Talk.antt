@@ -2,9 +2,10 @@
 -- most. Where one unit alone answered and hasn't the wanted address, a T_Connect to that tells whether another has it, and a T_Disconnect follows, so that
 -- no connection is left open. Where none has it, it is written, confirmed or not, and addresses are read once more. A listening ends once the read is
 -- confirmed and 3,000 ms in turn were quiet.
-use Rattle.std.specs.Prelude.{◌≡◌, ◌≢◌, ℕ, ◌+◌, ◌<◌, ◌≤◌, true, false, List, [], ◌∷◌, ◌++◌, length, Option, Some, None}
+use Rattle.std.specs.Prelude.{◌≡◌, ◌≢◌, ℕ, ◌+◌, ◌<◌, ◌≤◌, true, false, List, [], ◌∷◌, length, Some, None}
 use Rattle.std.specs.List.{AllByRecursion}
 use Rattle.knx_model.specs.declared.address.IndAddr.{IndAddr}
+use Rattle.line_model.specs.Asks.{HasPlace}
 use Rattle.line_model.specs.Reading.{ldata_in}
 use Rattle.line_model.specs.Record.{Entry, Placed, entries}
 use Rattle.line_model.specs.LinkStory.{newest_time}
@@ -59,21 +60,26 @@ pub data MayAsk (wanted : IndAddr) : List Round → Asked → Type 0 where
 abbrev pub listening_wait : ℕ
 listening_wait = 3000
 
--- the newest request is confirmed, and where it is a read 3,000 ms were quiet
-pub record IsHeardOut (wanted : IndAddr) (r : Round) (record_so_far : List Entry) : Type 0 where
+-- the newest request is confirmed and, where it is a read, 3,000 ms were quiet since the last datagram
+pub record IsHeardOut (wanted : IndAddr) (r : Round) (since now : ℕ) : Type 0 where
   pub confirmed : r.confirmed ≢ None
-  pub quiet : AsksFor wanted Read r → quiet_since record_so_far + listening_wait ≤ newest_time record_so_far
+  pub quiet : AsksFor wanted Read r → since + listening_wait ≤ now
 
+abbrev pub HeardOutBy : IndAddr → List Round → ℕ → ℕ → Type 0
+HeardOutBy wanted [] since now = Unit {0}
+HeardOutBy wanted (r ∷ rs) since now = IsHeardOut wanted r since now
+
+-- by the newest time
 abbrev pub HeardOut : IndAddr → List Round → List Entry → Type 0
-HeardOut wanted [] record_so_far = Unit {0}
-HeardOut wanted (r ∷ rs) record_so_far = IsHeardOut wanted r record_so_far
+HeardOut wanted rs record_so_far = HeardOutBy wanted rs (quiet_since record_so_far) (newest_time record_so_far)
 
--- it is put while the channel wasn't lost
+-- it is put while the channel wasn't lost, and where the place in flight is free
 pub record AsksRightly (wanted : IndAddr) (older : List Placed) (cemi : List ℕ) : Type 0 where
   pub asked : Asked
   pub reads : ldata_in cemi ≡ Some (frame_of wanted asked)
   pub may : MayAsk wanted (rounds (moments older)) asked
   pub heard_out : HeardOut wanted (rounds (moments older)) (entries older)
+  pub place : HasPlace (channel (entries older))
   pub kept : has_lost (moments older) ≡ false
 
 abbrev pub DoesRightly : IndAddr → List Placed → Deed → Type 0

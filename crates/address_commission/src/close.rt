@@ -1,92 +1,146 @@
 //! The end of the channel.
 
-ghost use Rattle.std.specs.Prelude.{◌≡◌, ◌≤◌, IfErr, OnOk, None};
+ghost use Rattle.std.specs.Prelude.{◌≡◌, ◌≢◌, ◌+◌, ◌-◌, ◌<◌, ◌≤◌, ℕ, IfErr, IfOk, OnOk, None, false, true};
+ghost use Rattle.std.specs.Prelude.{List as Seq};
 ghost use Rattle.knx_model.specs.declared.address.IndAddr.{IndAddr as Address};
 ghost use Rattle.knx_model.specs.Outside.{Rose};
 ghost use Rattle.line_model.specs.Asks.{HasPlace};
+ghost use Rattle.line_model.specs.ChannelLost.{answer_wait};
 ghost use Rattle.line_model.specs.ClientView.{channel};
-ghost use Rattle.line_model.specs.Record.{entries};
+ghost use Rattle.line_model.specs.Leaves.{StaysOpen};
+ghost use Rattle.line_model.specs.LinkStory.{newest_time};
+ghost use Rattle.line_model.specs.Moments.{moments};
+ghost use Rattle.line_model.specs.Record.{Placed, entries};
 ghost use Rattle.tunnel_link.specs.Adds.{Growing};
 ghost use Rattle.tunnel_link.specs.Alone.{Each, EndsNone};
 ghost use Rattle.tunnel_link.specs.Goes.{GoesOn};
 ghost use Rattle.tunnel_link.specs.Rights.{WhereTold};
-ghost use Rattle.address_commission.specs.Ends.{ClosesSo, FailsBy, FailsSo, LeavesOn};
+ghost use Rattle.address_commission.specs.Ends.{ClosesSo, ComesLate, FailsBy, FailsSo, HasAwaited, LeavesOn, LeavesSince, LeftOn, PaceKept, got_one};
 ghost use Rattle.address_commission.specs.Going.{Going};
+ghost use Rattle.address_commission.specs.Rounds.{has_lost};
 
 use crate::assigned::AssignFault;
 use crate::told::told;
-use line_model::{LONGEST_POLL_MS, Link};
+use line_model::Link;
 use std::sync::Wait;
-use tunnel_link::{Tunnel, What};
+use tunnel_link::{Came, Loss, Tunnel, What};
 
 /// How long the answer to the disconnect request is awaited, in milliseconds.
 const LEAVING_MS: u64 = 10_000;
-/// How many polls with a datagram, at most, are made meanwhile.
+/// How many datagrams, at most, are taken meanwhile.
 const MOST_DATAGRAMS: u32 = 64;
 
 /// Asks to end the channel, and waits for the answer. A failing link and a lost channel change nothing.
 pub fn close<R: Wait, L: Link>(rt: &R, tunnel: &mut Tunnel<L>) -> Result<(), AssignFault>
     requires stands { tunnel.old.known.fault ≡ None }
     requires place { WhereTold (λ places. HasPlace (channel (entries places))) (L.story tunnel.old.link) }
+    requires kept { WhereTold (λ places. has_lost (moments places) ≡ false) (L.story tunnel.old.link) }
+    requires stays { WhereTold (λ places. StaysOpen (entries places)) (L.story tunnel.old.link) }
     ensures closes { (wanted : Address) → Going (ClosesSo wanted) (L.story tunnel.old.link) (L.story tunnel.new.link) }
+    ensures paces { Going PaceKept (L.story tunnel.old.link) (L.story tunnel.new.link) }
     ensures leaves { OnOk result (¬ Rose (L.faults tunnel.old.link) (L.faults tunnel.new.link) → Going LeavesOn (L.story tunnel.old.link) (L.story tunnel.new.link)) }
     ensures fails { IfErr result (λ fault. WhereTold (FailsSo fault) (L.story tunnel.new.link)) }
+    ensures late { IfErr result ComesLate }
     ensures cause { IfErr result (λ fault. FailsBy fault (L.faults tunnel.old.link) (L.faults tunnel.new.link)) }
     ensures count { L.faults tunnel.old.link ≤ L.faults tunnel.new.link }
     ensures script { L.script tunnel.new.link ≡ L.script tunnel.old.link }
 {
-    let left = tunnel.leave();
-    match told(tunnel, left) {
-        Ok(asked) => {
-            await_response(rt, tunnel, asked);
-            Ok(())
-        }
+    match leave(rt, tunnel) {
         Err(AssignFault::LinkFailed) => Ok(()),
-        Err(why) => Err(why),
+        left => left,
     }
 }
 
-/// Waits for the answer to the disconnect request, where there was one. Whatever comes of it changes nothing.
-fn await_response<R: Wait, L: Link>(rt: &R, tunnel: &mut Tunnel<L>, asked: bool)
+/// Asks to end the channel, and awaits the response.
+fn leave<R: Wait, L: Link>(rt: &R, tunnel: &mut Tunnel<L>) -> Result<(), AssignFault>
+    requires stands { tunnel.old.known.fault ≡ None }
+    requires place { WhereTold (λ places. HasPlace (channel (entries places))) (L.story tunnel.old.link) }
+    requires kept { WhereTold (λ places. has_lost (moments places) ≡ false) (L.story tunnel.old.link) }
+    requires stays { WhereTold (λ places. StaysOpen (entries places)) (L.story tunnel.old.link) }
     ensures closes { (wanted : Address) → Going (ClosesSo wanted) (L.story tunnel.old.link) (L.story tunnel.new.link) }
-    ensures grows { GoesOn (L.story tunnel.old.link) (L.story tunnel.new.link) }
-    ensures alone { Growing (Each EndsNone) (L.story tunnel.old.link) (L.story tunnel.new.link) }
+    ensures paces { Going PaceKept (L.story tunnel.old.link) (L.story tunnel.new.link) }
+    ensures leaves { OnOk result (Going LeavesOn (L.story tunnel.old.link) (L.story tunnel.new.link)) }
+    ensures fails { IfErr result (λ fault. WhereTold (FailsSo fault) (L.story tunnel.new.link)) }
+    ensures late { IfErr result (λ fault. fault ≢ AssignFault.LinkFailed → ComesLate fault) }
+    ensures cause { IfErr result (λ fault. FailsBy fault (L.faults tunnel.old.link) (L.faults tunnel.new.link)) }
     ensures count { L.faults tunnel.old.link ≤ L.faults tunnel.new.link }
     ensures script { L.script tunnel.new.link ≡ L.script tunnel.old.link }
 {
-    if !asked {
-        return;
-    }
     let began = tunnel.now();
+    let left = tunnel.leave();
+    let _ = told(tunnel, left)?;
+    await_response(rt, tunnel, began)
+}
+
+/// Awaits the answer to the disconnect request that was sent at this time.
+fn await_response<R: Wait, L: Link>(
+    rt: &R,
+    tunnel: &mut Tunnel<L>,
+    began: u64,
+) -> Result<(), AssignFault>
+    requires stands { tunnel.old.known.fault ≡ None }
+    ensures closes { (wanted : Address) → Going (ClosesSo wanted) (L.story tunnel.old.link) (L.story tunnel.new.link) }
+    ensures paces { Going PaceKept (L.story tunnel.old.link) (L.story tunnel.new.link) }
+    ensures awaited { OnOk result ((talk : Seq Placed) → newest_time (entries talk) ≡ began → WhereTold (LeavesSince 64 talk) (L.story tunnel.old.link) → WhereTold (HasAwaited talk) (L.story tunnel.new.link)) }
+    ensures grows { GoesOn (L.story tunnel.old.link) (L.story tunnel.new.link) }
+    ensures alone { Growing (Each EndsNone) (L.story tunnel.old.link) (L.story tunnel.new.link) }
+    ensures fails { IfErr result (λ fault. WhereTold (FailsSo fault) (L.story tunnel.new.link)) }
+    ensures late { IfErr result (λ fault. fault ≢ AssignFault.LinkFailed → ComesLate fault) }
+    ensures cause { IfErr result (λ fault. FailsBy fault (L.faults tunnel.old.link) (L.faults tunnel.new.link)) }
+    ensures count { L.faults tunnel.old.link ≤ L.faults tunnel.new.link }
+    ensures script { L.script tunnel.new.link ≡ L.script tunnel.old.link }
+{
     let mut left = MOST_DATAGRAMS;
     for _ in rt.forever() {
-        if left == 0 || !tunnel.is_open() || tunnel.now().saturating_sub(began) >= LEAVING_MS {
-            return;
+        let passed = tunnel.now().saturating_sub(began);
+        if left == 0 || passed >= LEAVING_MS {
+            return Ok(());
         }
-        if !waits(tunnel, &mut left) {
-            return;
+        let came = waits(tunnel, (LEAVING_MS - passed) as u32)?;
+        if !stays(came.loss) {
+            return Ok(());
         }
+        left = left.saturating_sub(got_one(&came.what));
     }
+    unreachable!()
 }
 
-/// Does what is due, and makes one poll; a datagram is counted down. Tells whether the link goes on.
-fn waits<L: Link>(tunnel: &mut Tunnel<L>, left: &mut u32) -> bool
+/// Does what is due, and makes one poll of at most so many milliseconds.
+fn waits<L: Link>(tunnel: &mut Tunnel<L>, longest_ms: u32) -> Result<Came, AssignFault>
+    requires stands { tunnel.old.known.fault ≡ None }
     ensures closes { (wanted : Address) → Going (ClosesSo wanted) (L.story tunnel.old.link) (L.story tunnel.new.link) }
+    ensures paces { Going PaceKept (L.story tunnel.old.link) (L.story tunnel.new.link) }
+    ensures awaits { IfOk result (λ came. (left : ℕ) (talk : Seq Placed) (now : ℕ) → WhereTold (λ places. now ≡ newest_time (entries places)) (L.story tunnel.old.link) → now + longest_ms ≤ newest_time (entries talk) + answer_wait
+        → 1 ≤ left → WhereTold (LeavesSince left talk) (L.story tunnel.old.link) → WhereTold (LeftOn came left talk) (L.story tunnel.new.link)) }
+    ensures stands { OnOk result (tunnel.new.known.fault ≡ None) }
     ensures grows { GoesOn (L.story tunnel.old.link) (L.story tunnel.new.link) }
     ensures alone { Growing (Each EndsNone) (L.story tunnel.old.link) (L.story tunnel.new.link) }
+    ensures fails { IfErr result (λ fault. WhereTold (FailsSo fault) (L.story tunnel.new.link)) }
+    ensures late { IfErr result (λ fault. fault ≢ AssignFault.LinkFailed → ComesLate fault) }
+    ensures cause { IfErr result (λ fault. FailsBy fault (L.faults tunnel.old.link) (L.faults tunnel.new.link)) }
     ensures count { L.faults tunnel.old.link ≤ L.faults tunnel.new.link }
     ensures script { L.script tunnel.new.link ≡ L.script tunnel.old.link }
 {
-    if tunnel.act().is_err() {
-        return false;
-    }
-    match tunnel.poll(LONGEST_POLL_MS) {
-        Ok(came) => {
-            if !matches!(came.what, What::Quiet) {
-                *left = left.saturating_sub(1);
-            }
-            true
-        }
-        Err(_) => false,
+    let acted = tunnel.act();
+    let _ = told(tunnel, acted)?;
+    let polled = tunnel.poll(longest_ms);
+    told(tunnel, polled)
+}
+
+/// Whether the channel stays.
+fn stays(loss: Loss) -> bool
+    ensures stays { result ≡ true → loss ≡ Loss.Stays }
+    ensures lost { result ≡ false → ¬ (loss ≡ Loss.Stays) }
+{
+    matches!(loss, Loss::Stays)
+}
+
+/// How many datagrams came.
+fn got_one(what: &What) -> u32
+    ensures { result ≡ got_one what.now }
+{
+    match what {
+        What::Quiet => 0,
+        What::Dropped | What::Tunnel | What::Up { .. } | What::Frame(_) => 1,
     }
 }

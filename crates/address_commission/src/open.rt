@@ -4,6 +4,7 @@ ghost use Rattle.std.specs.Prelude.{◌≡◌, ◌≤◌, IfErr, OnOk, None};
 ghost use Rattle.line_model.specs.Asks.{HasPlace};
 ghost use Rattle.line_model.specs.ClientView.{channel};
 ghost use Rattle.line_model.specs.Record.{entries};
+ghost use Rattle.tunnel_link.specs.Adds.{HasActed};
 ghost use Rattle.tunnel_link.specs.Rights.{WhereTold};
 ghost use Rattle.address_commission.specs.Ends.{FailsBy, TalkGoes};
 ghost use Rattle.address_commission.specs.Going.{SameRounds};
@@ -32,11 +33,11 @@ pub fn open<R: Wait, L: Link>(
     ensures script { L.script tunnel.new.link ≡ L.script tunnel.old.link }
 {
     for _ in rt.forever() {
+        act(tunnel)?;
+        seek(tunnel)?;
         if tunnel.has_place() {
             return Ok(());
         }
-        act(tunnel)?;
-        seek(tunnel)?;
         poll(tunnel, ear, LONGEST_POLL_MS)?;
     }
     unreachable!()
@@ -46,6 +47,7 @@ pub fn open<R: Wait, L: Link>(
 fn seek<L: Link>(tunnel: &mut Tunnel<L>) -> Result<(), AssignFault>
     requires stands { tunnel.old.known.fault ≡ None }
     ensures goes { (e : HeldEar) → TalkGoes SameRounds e e (L.story tunnel.old.link) (L.story tunnel.new.link) result }
+    ensures acted { OnOk result (HasActed tunnel.old.known (L.story tunnel.old.link) → HasActed tunnel.new.known (L.story tunnel.new.link)) }
     ensures stands { OnOk result (tunnel.new.known.fault ≡ None) }
     ensures cause { IfErr result (λ fault. FailsBy fault (L.faults tunnel.old.link) (L.faults tunnel.new.link)) }
     ensures count { L.faults tunnel.old.link ≤ L.faults tunnel.new.link }

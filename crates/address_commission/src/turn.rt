@@ -1,8 +1,12 @@
 //! What is due, and one poll.
 
 ghost use Rattle.std.specs.Prelude.{◌≡◌, ◌<◌, ◌≤◌, IfErr, OnOk, None};
+ghost use Rattle.knx_model.specs.declared.address.IndAddr.{IndAddr as Address};
+ghost use Rattle.tunnel_link.specs.Adds.{HasActed};
+ghost use Rattle.tunnel_link.specs.Rights.{WhereTold};
 ghost use Rattle.address_commission.specs.Ends.{EndsFor, FailsBy, TalkGoes};
-ghost use Rattle.address_commission.specs.Going.{SameRounds};
+ghost use Rattle.address_commission.specs.Going.{Going, SameRounds};
+ghost use Rattle.address_commission.specs.Listening.{AwaitsFor, Listens};
 ghost use Rattle.address_commission.specs.declared.ear.Ear.{Ear as HeldEar};
 
 use crate::assigned::AssignFault;
@@ -14,27 +18,12 @@ use tunnel_link::{Loss, Tunnel};
 /// So many datagrams, awaited connection state responses aside, are the most that are taken.
 const FLOOD: u64 = 16_777_216;
 
-/// Does what is due, and makes one poll of at most so many milliseconds.
-pub fn turn<L: Link>(
-    tunnel: &mut Tunnel<L>,
-    ear: &mut Ear,
-    longest_ms: u32,
-) -> Result<(), AssignFault>
-    requires stands { tunnel.old.known.fault ≡ None }
-    ensures goes { TalkGoes SameRounds ear.old ear.new (L.story tunnel.old.link) (L.story tunnel.new.link) result }
-    ensures stands { OnOk result (tunnel.new.known.fault ≡ None) }
-    ensures cause { IfErr result (λ fault. FailsBy fault (L.faults tunnel.old.link) (L.faults tunnel.new.link)) }
-    ensures count { L.faults tunnel.old.link ≤ L.faults tunnel.new.link }
-    ensures script { L.script tunnel.new.link ≡ L.script tunnel.old.link }
-{
-    act(tunnel)?;
-    poll(tunnel, ear, longest_ms)
-}
-
 /// Does what is due by the time.
 pub fn act<L: Link>(tunnel: &mut Tunnel<L>) -> Result<(), AssignFault>
     requires stands { tunnel.old.known.fault ≡ None }
     ensures goes { (e : HeldEar) → TalkGoes SameRounds e e (L.story tunnel.old.link) (L.story tunnel.new.link) result }
+    ensures same { Going SameRounds (L.story tunnel.old.link) (L.story tunnel.new.link) }
+    ensures acted { OnOk result (HasActed tunnel.new.known (L.story tunnel.new.link)) }
     ensures stands { OnOk result (tunnel.new.known.fault ≡ None) }
     ensures cause { IfErr result (λ fault. FailsBy fault (L.faults tunnel.old.link) (L.faults tunnel.new.link)) }
     ensures count { L.faults tunnel.old.link ≤ L.faults tunnel.new.link }
@@ -63,7 +52,10 @@ pub fn poll<L: Link>(
     longest_ms: u32,
 ) -> Result<(), AssignFault>
     requires stands { tunnel.old.known.fault ≡ None }
+    requires acted { HasActed tunnel.old.known (L.story tunnel.old.link) }
+    requires awaits { (wanted : Address) → WhereTold (Listens wanted ear.old) (L.story tunnel.old.link) → WhereTold (AwaitsFor wanted longest_ms) (L.story tunnel.old.link) }
     ensures goes { TalkGoes SameRounds ear.old ear.new (L.story tunnel.old.link) (L.story tunnel.new.link) result }
+    ensures same { Going SameRounds (L.story tunnel.old.link) (L.story tunnel.new.link) }
     ensures stands { OnOk result (tunnel.new.known.fault ≡ None) }
     ensures cause { IfErr result (λ fault. FailsBy fault (L.faults tunnel.old.link) (L.faults tunnel.new.link)) }
     ensures count { L.faults tunnel.old.link ≤ L.faults tunnel.new.link }

@@ -1,18 +1,24 @@
-use Rattle.std.proofs.Common.{◌≡◌, ◌≤◌}
+use Rattle.std.proofs.Common.{◌≡◌, ◌≤◌, List, None}
 use Rattle.knx_model.specs.declared.address.IndAddr.{IndAddr as Address}
+use Rattle.line_model.specs.LinkStory.{newest_time}
+use Rattle.line_model.specs.Record.{Placed, entries}
 use Rattle.tunnel_link.specs.Adds.{Growing}
 use Rattle.tunnel_link.specs.Alone.{Each, EndsNone}
 use Rattle.tunnel_link.specs.Goes.{GoesOn}
-use Rattle.address_commission.specs.Ends.{ClosesSo}
+use Rattle.tunnel_link.specs.Rights.{WhereTold}
 use Rattle.address_commission.specs.Going.{Going}
+use Rattle.address_commission.specs.Ends.{ClosesSo, LeavesSince, PaceKept}
 use Rattle.address_commission.proofs.close.await_response.Given as goal
 
--- no request is put
+-- no request is put, and the response is still awaited
 abbrev pub invariant-loop : goal.invariant-loop
 invariant-loop g l = record {
   next : (goal.iterator-loop g).can_next l.iterator';
   finite : (goal.iterator-loop g).is_finite l.iterator';
   closes : (wanted : Address) → Going (ClosesSo wanted) (g.L.Link.story l.fn.tunnel.link) (g.L.Link.story l.tunnel.link);
+  paces : Going PaceKept (g.L.Link.story l.fn.tunnel.link) (g.L.Link.story l.tunnel.link);
+  awaits : (talk : List Placed) → newest_time (entries talk) ≡ l.fn.began → WhereTold (LeavesSince 64 talk) (g.L.Link.story l.fn.tunnel.link) → WhereTold (LeavesSince l.left talk) (g.L.Link.story l.tunnel.link);
+  stands : l.tunnel.known.fault ≡ None;
   grows : GoesOn (g.L.Link.story l.fn.tunnel.link) (g.L.Link.story l.tunnel.link);
   alone : Growing (Each EndsNone) (g.L.Link.story l.fn.tunnel.link) (g.L.Link.story l.tunnel.link);
   count : g.L.Link.faults l.fn.tunnel.link ≤ g.L.Link.faults l.tunnel.link;

@@ -1,4 +1,3 @@
-use Rattle.std.proofs.Common.{subst, sym}
 use Rattle.address_commission.proofs.Ends.{units_kept}
 use Rattle.address_commission.proofs.giving.assign.Goals as goal
 
@@ -6,3 +5,6 @@ pub returns-clause-units : goal.returns-clause-units
 returns-clause-units g c =
     rw c.end-link.ensures (units_kept c.args.wanted c.talk-result.result c.talk-result.new.tunnel.known (g.L.Link.story c.talk-result.new.tunnel.link) (g.L.AddressLink.told c.talk-result.new.tunnel.link) c.talk-result.ensures.ends c.keeps.ensures.record (rw (← c.end-link.ensures) c.tells.ensures)
     (c.requests_are_those_that_were_put.ensures c.args.wanted) (c.units_keep_their_addresses.ensures c.args.wanted))
+
+pub returns-clause-leaves : goal.returns-clause-leaves
+returns-clause-leaves g c = rw c.end-link.ensures (rw (← c.begin-tunnel.ensures.link) c.talk-result.ensures.leaves)

@@ -1,7 +1,8 @@
-use Rattle.std.proofs.Common.{subst, sym, ◌∙◌, arith}
+use Rattle.std.proofs.Common.{subst, sym, ◌∙◌, arith, Ok}
 use Rattle.address_commission.specs.Ends.{TalkGoes}
 use Rattle.address_commission.specs.Going.{SameRounds}
-use Rattle.address_commission.proofs.Calls.{handed_on, goes_then}
+use Rattle.address_commission.proofs.Calls.{handed_on, goes_then, none_awaited}
+use Rattle.address_commission.proofs.Pacing.{not_both}
 use Rattle.address_commission.proofs.open.open.Goals as goal
 
 pub returns-in_err-act-clause-goes : goal.returns-in_err-act-clause-goes
@@ -30,3 +31,11 @@ loop-preserved g c = record {
   count = omega (arith, c.loop.invariant.count, c.act.ensures.count, c.seek.ensures.count, c.poll.ensures.count);
   script = c.poll.ensures.script ∙ c.seek.ensures.script ∙ c.act.ensures.script ∙ c.loop.invariant.script;
 }
+
+pub poll-requires-clause-awaits : goal.poll-requires-clause-awaits
+poll-requires-clause-awaits g c = λ wanted listens.
+    none_awaited _ (λ places p place. not_both c.has_place.result ((c.has_place.ensures.told c.in_ok-seek.ensures.stands places p).1 place) c.if-has_place.false) wanted _
+
+pub returns-then-has_place-clause-goes : goal.returns-then-has_place-clause-goes
+returns-then-has_place-clause-goes g c =
+    goes_then tt c.args.ear.now c.loop.ear c.loop.ear _ _ _ (Ok tt) (goes_then tt c.args.ear.now c.loop.ear c.loop.ear _ _ _ (Ok tt) c.loop.invariant.goes (c.in_ok-act.ensures.goes c.loop.ear)) (c.in_ok-seek.ensures.goes c.loop.ear)
