@@ -17,6 +17,7 @@ pub mod Tries
 pub mod Tally
 pub mod TunnelTold
 pub mod Scripts
+pub mod Disturbances
 pub mod Phases
 pub mod Books
 pub mod BooksMoves

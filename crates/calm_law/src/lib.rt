@@ -1,7 +1,7 @@
 //! The law of undisturbed lines: where nothing is lost and the client loses no time, time passes only where nothing is awaited, and nothing fails.
 #![tactic(auto)]
 
-ghost use Rattle.std.specs.Prelude.{◌≡◌, ℕ, IfSome, List, [], ◌∷◌, false};
+ghost use Rattle.std.specs.Prelude.{◌≡◌, ◌≤◌, ℕ, IfSome, List, [], ◌∷◌, false};
 ghost use Rattle.std.specs.List.{AllByRecursion};
 ghost use Rattle.knx_model.specs.declared.address.IndAddr.{IndAddr as Address};
 ghost use Rattle.line_model.specs.Haste.{KeepsPaces};
@@ -28,6 +28,7 @@ ghost use Rattle.calm_law.specs.CalmRun.{gateway, calm_run};
 ghost use Rattle.calm_law.specs.CalmLine.{HaveShortValues, PassesIdlyOnLine};
 ghost use Rattle.calm_law.specs.CalmEnds.{EndWell};
 ghost use Rattle.calm_law.specs.CalmCounts.{ComeForJobs, ComeForRequests, ComeForWrites, CostsAtMost, EachBrings, EachHeard, check_cost, load_cost, some_reads};
+ghost use Rattle.calm_law.specs.CalmDisturbances.{ends_met, lines_that_end};
 ghost use Rattle.knx_model.specs.declared.config.Image.{Image};
 ghost use Rattle.knx_model.specs.LoadPlan.{load_plan, check_plan};
 ghost use Rattle.calm_law.specs.CalmChecks.{ChecksExactly, HaveOneImage, IsAnsweredRightly};
@@ -88,6 +89,11 @@ pub fn plans_cost_by_their_lists()
 /// Where events follow a script that disturbs nothing, all of them are calm.
 pub fn undisturbing_scripts_are_calm()
     ensures { (script : Script) (start : World) (events : List Event) → IsUndisturbed script → IsLegalOnLine Commissions start events → Follows script Commissions start events → AreCalmEvents start events }
+{}
+
+/// However a run goes, it reaches no more places at which a line of its script can end an attempt of a device than there are such lines: none ends two.
+pub fn each_line_ends_one_attempt()
+    ensures { (device : ℕ) (script : Script) (start : World) (events : List Event) → ends_met device script start events ≤ lines_that_end device script }
 {}
 
 /// On a calm line whose client is safe and loses no time, where each device has power and values that fit into a response, and those of the jobs are
