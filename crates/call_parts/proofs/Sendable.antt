@@ -17,7 +17,7 @@ use Rattle.knx_model.specs.declared.script.ScriptLine.{ScriptLine}
 use Rattle.knx_model.specs.declared.script.ScriptWhat.{ScriptWhat}
 use Rattle.knx_model.specs.declared.script.ScriptWhat.TheVariants.{LoseUp, LoseDown, RepeatUp, RepeatDown, LoseTo, LoseFrom, RepeatTo, Cut, Worn, CloseAfter, Refuse, DropChannel, Off, Standard, Group}
 use Rattle.line_model.specs.declared.group.GroupTurn.{GroupTurn}
-use Rattle.call_parts.specs.Turns.{after_jobs, turns_of, while_jobs}
+use Rattle.call_parts.specs.Turns.{after_jobs, most_turns, turns_of, while_jobs}
 
 -- ---- few
 
@@ -45,7 +45,7 @@ no_longer says (l ∷ lines) = one (says l.what) (filter_map (λ (s : ScriptLine
     one None turns rest few = omega (arith, few)
     one (Some turn) turns rest few = omega (arith, few)
 
-pub few_turns : (lines : List ScriptLine) → are_script_lines lines ≡ true → script_lines_ascend lines ≡ true → length (turns_of lines) < 4294967296
+pub few_turns : (lines : List ScriptLine) → are_script_lines lines ≡ true → script_lines_ascend lines ≡ true → length (turns_of lines) ≤ most_turns
 few_turns lines spelled ascend = omega (
   arith,
   few_lines 0 lines (omega arith) spelled ascend,

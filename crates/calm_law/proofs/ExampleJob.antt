@@ -44,7 +44,7 @@ use Rattle.calm_law.proofs.ShortValues.{zeros_fit}
 use Rattle.calm_law.specs.CalmSession.{calm_session, told}
 use Rattle.calm_law.proofs.Absent.{all_absent}
 use Rattle.calm_law.proofs.Example.{all_over, apart, renews_not, paces_not}
-use Rattle.calm_law.proofs.JoinedLaw.{each_job}
+use Rattle.calm_law.proofs.Numbered.{each_of}
 use Rattle.calm_law.proofs.LegalCalm.{all_carry, calm_legal}
 
 -- ---- the line and the job
@@ -183,7 +183,7 @@ ends kept = (tt, (tt, tt))
 -- ---- no attempt begins but the first
 
 is_the_job : (k : ℕ) (j : Job) → job_of (job ∷ []) k ≡ Some j → j ≡ job
-is_the_job k j h = each_job (λ j. j ≡ job) (job ∷ []) (refl, tt) k j h
+is_the_job k j h = each_of (λ j. j ≡ job) (job ∷ []) (refl, tt) k j h
 
 held_since : (b : Bool) (worker since : ℕ) → cond b (Held 1 4) Untaken ≡ Held worker since → since ≡ 4
 held_since true worker since h = cc

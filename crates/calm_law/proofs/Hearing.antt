@@ -114,43 +114,87 @@ IsPut Renewed = Unit {0}
 IsPut Quiet = Unit {0}
 IsPut _ = ⊥
 
-module _ (a : ℕ) where
-  either_none : (what : Deed) → heard_from a what ≡ None → heard_from a (or_takes what Nothing) ≡ None
-  either_none (Puts octets) h = refl
-  either_none (Takes octets) h = h
-  either_none Loses h = refl
-  either_none Nothing h = refl
+same_item : (x y : Item) → Some x ≡ Some y → x ≡ y
+same_item x y e = cc
 
-  puts_none : (b : Bool) (o : Option RequestFrame) → heard_from a (deed_of Puts b o) ≡ None
-  puts_none b None = refl
-  puts_none true (Some q) = refl
-  puts_none false (Some q) = refl
+module _ (E : Option Ldata → List Ldata → Type 0) where
+  either_took : (what : Deed) → Took E what → Took E (or_takes what Nothing)
+  either_took (Puts octets) h = tt
+  either_took (Takes octets) h = h
+  either_took Loses h = tt
+  either_took Nothing h = tt
 
-  counted_none : (last : Option Ldata) (what : Deed) → heard_from a what ≡ None → heard_from a (as_counted last what) ≡ None
-  counted_none last (Puts octets) h = refl
-  counted_none last (Takes octets) h = by_test (counts last (ldata_in octets)) where
-    by_test : (b : Bool) → heard_from a (cond b (Takes octets) Nothing) ≡ None
+  puts_took : (b : Bool) (o : Option RequestFrame) → Took E (deed_of Puts b o)
+  puts_took b None = tt
+  puts_took true (Some q) = tt
+  puts_took false (Some q) = tt
+
+  counted_took : (last : Option Ldata) (what : Deed) → Took E what → Took E (as_counted last what)
+  counted_took last (Puts octets) h = tt
+  counted_took last (Takes octets) h = by_test (counts last (ldata_in octets)) where
+    by_test : (b : Bool) → Took E (cond b (Takes octets) Nothing)
     by_test true = h
-    by_test false = refl
-  counted_none last Loses h = refl
-  counted_none last Nothing h = refl
+    by_test false = tt
+  counted_took last Loses h = tt
+  counted_took last Nothing h = tt
 
-  pub put_none : (ch : ClientChannel) (item : Item) (now : ℕ) → IsPut item → heard_from a (deed ch (entry item now)) ≡ None
+  put_took : (ch : ClientChannel) (item : Item) (now : ℕ) → IsPut item → Took E (deed ch (entry item now))
   unfolding deed
-  put_none Fresh item now put = refl
-  put_none (Sought since) item now put = refl
-  put_none (RefusedBy status) item now put = refl
-  put_none Unanswered item now put = refl
-  put_none (Lost c) item now put = refl
-  put_none (Open c l) (Put octets) now put =
+  put_took Fresh item now put = tt
+  put_took (Sought since) item now put = tt
+  put_took (RefusedBy status) item now put = tt
+  put_took Unanswered item now put = tt
+  put_took (Lost c) item now put = tt
+  put_took (Open c l) (Put octets) now put =
       let what : Deed = deed_of Puts (is_new_request c l (entry (Put octets) now)) (request_in (put_in (Put octets))) in
-      counted_none (last_frame c l) (or_takes what Nothing) (either_none what (puts_none (is_new_request c l (entry (Put octets) now)) (request_in (put_in (Put octets)))))
-  put_none (Open c l) Renewed now put = refl
-  put_none (Open c l) (Got octets) now put = absurd put
-  put_none (Open c l) Quiet now put = by_test (is_lost c l (entry Quiet now)) where
-    by_test : (b : Bool) → heard_from a (cond b Loses (as_counted (last_frame c l) (deed_in c l (entry Quiet now)))) ≡ None
-    by_test true = refl
-    by_test false = refl
+      counted_took (last_frame c l) (or_takes what Nothing) (either_took what (puts_took (is_new_request c l (entry (Put octets) now)) (request_in (put_in (Put octets)))))
+  put_took (Open c l) Renewed now put = tt
+  put_took (Open c l) (Got octets) now put = absurd put
+  put_took (Open c l) Quiet now put = by_test (is_lost c l (entry Quiet now)) where
+    by_test : (b : Bool) → Took E (cond b Loses (as_counted (last_frame c l) (deed_in c l (entry Quiet now))))
+    by_test true = tt
+    by_test false = tt
+
+  -- ---- at each event, while the channel isn't asked to end
+
+  module _ (r : List Entry) (t : Tunnel) where
+    abbrev TookAt : TunnelEvent → Item → Type 0
+    TookAt te item = StaysOpen (entry item (step t te).now ∷ r) → Took E (deed (channel r) (entry item (step t te).now))
+
+    put_at : (te : TunnelEvent) (item : Item) → IsPut item → TookAt te item
+    put_at te item put = λ stays. put_took (channel r) item (step t te).now put
+
+    got_at : (age : ℕ) → Inv E r t → MayHappen Commissions t (Down age) → IsCalm t (Down age) → May r (item_of t (Down age)) (step t (Down age)).now → (item : Item) → item_of t (Down age) ≡ Some item → TookAt (Down age) item
+    got_at age inv can calm may item is = λ stays.
+        (let now_is : (step t (Down age)).now ≡ t.now = step_now t (Down age) in
+        let what : Deed = deed (channel r) (entry item t.now) in
+        let after_it : Inv (λ fly q. Took E (deed (channel r) (entry item t.now))) (noted (item_of t (Down age)) (step t (Down age)).now r) (step t (Down age))
+        = step_kept E (λ fly q. Took E (deed (channel r) (entry item t.now))) r t (Down age) inv can calm may
+        (λ it got_is. subst (λ z. Steps E (λ fly q. Took E (deed (channel r) (entry item t.now))) (deed (channel r) (entry z t.now))) (same_item item it (sym is ∙ got_is)) (took_steps E (deed (channel r) (entry item t.now)))) in
+        let noted_is : noted (item_of t (Down age)) (step t (Down age)).now r ≡ entry item (step t (Down age)).now ∷ r = ap (λ o. noted o (step t (Down age)).now r) is in
+        subst (λ n. Took E (deed (channel r) (entry item n))) (sym now_is)
+        (by_inv (noted (item_of t (Down age)) (step t (Down age)).now r) (step t (Down age)) (deed (channel r) (entry item t.now)) after_it (subst StaysOpen (sym noted_is) stays)))
+      where
+        by_inv : (x : List Entry) (u : Tunnel) (what : Deed) → Inv (λ fly q. Took E what) x u → StaysOpen x → Took E what
+        by_inv x u what (inl l) stays = (ridden (λ fly q. Took E what) x u l).so
+        by_inv x u what (inr (inl p)) stays = absurd (p.up.asks.1 stays)
+        by_inv x u what (inr (inr g)) stays = absurd (g.asked stays)
+
+    pub took_at : (te : TunnelEvent) → Inv E r t → MayHappen Commissions t te → IsCalm t te → May r (item_of t te) (step t te).now → (item : Item) → item_of t te ≡ Some item → TookAt te item
+    took_at (Down age) inv can calm may item is = got_at age inv can calm may item is
+    took_at (Send octets) inv can calm may item is = put_at (Send octets) item (subst IsPut (same_item (Put octets) item is) tt)
+    took_at (From endpoint octets) inv can calm may item is = put_at (From endpoint octets) item (subst IsPut (same_item (Put octets) item is) tt)
+    took_at Renew inv can calm may item is = put_at Renew item (subst IsPut (same_item Renewed item is) tt)
+    took_at (Pass ms) inv can calm may item is = put_at (Pass ms) item (subst IsPut (same_item Quiet item is) tt)
+    took_at (Up age) inv can calm may item is = absurd (cc)
+    took_at (UpRefused age status) inv can calm may item is = absurd (cc)
+    took_at (LoseUp age) inv can calm may item is = absurd (cc)
+    took_at (LoseDown age) inv can calm may item is = absurd (cc)
+    took_at (Carried con) inv can calm may item is = absurd (cc)
+    took_at (tunnel.Heard frames) inv can calm may item is = absurd (cc)
+    took_at Repeat inv can calm may item is = absurd (cc)
+    took_at Close inv can calm may item is = absurd (cc)
+    took_at Elsewhere inv can calm may item is = absurd (cc)
 
 -- ---- each event
 
@@ -171,43 +215,8 @@ module _ (jobs : List Job) (then : ℕ → Devices) (start : World) (me : IndAdd
   abbrev HearsAt : TunnelEvent → Item → Type 0
   HearsAt te item = HeardSo jobs start log places (record { at = suc m; what = entry item (step t te).now })
 
-  put_hears : (te : TunnelEvent) (item : Item) → IsPut item → HearsAt te item
-  put_hears te item put = λ stays a some on none. some (put_none a (channel r) item (step t te).now put)
-
-  same_item : (x y : Item) → Some x ≡ Some y → x ≡ y
-  same_item x y e = cc
-
-  got_hears : (age : ℕ) → Inv E r t → MayHappen Commissions t (Down age) → IsCalm t (Down age) → May r (item_of t (Down age)) (step t (Down age)).now → (item : Item) → item_of t (Down age) ≡ Some item → HearsAt (Down age) item
-  got_hears age inv can calm may item is = λ stays a some on none.
-      (let now_is : (step t (Down age)).now ≡ t.now = step_now t (Down age) in
-      let what : Deed = deed (channel r) (entry item t.now) in
-      let after_it : Inv (λ fly q. Took E (deed (channel r) (entry item t.now))) (noted (item_of t (Down age)) (step t (Down age)).now r) (step t (Down age))
-      = step_kept E (λ fly q. Took E (deed (channel r) (entry item t.now))) r t (Down age) inv can calm may
-      (λ it got_is. subst (λ z. Steps E (λ fly q. Took E (deed (channel r) (entry item t.now))) (deed (channel r) (entry z t.now))) (same_item item it (sym is ∙ got_is)) (took_steps E (deed (channel r) (entry item t.now)))) in
-      let noted_is : noted (item_of t (Down age)) (step t (Down age)).now r ≡ entry item (step t (Down age)).now ∷ r = ap (λ o. noted o (step t (Down age)).now r) is in
-      took_means a (deed (channel r) (entry item t.now)) (by_inv (noted (item_of t (Down age)) (step t (Down age)).now r) (step t (Down age)) (deed (channel r) (entry item t.now)) after_it (subst StaysOpen (sym noted_is) stays))
-      (subst (λ n. heard_from a (deed (channel r) (entry item n)) ≢ None) now_is some) on none)
-    where
-      by_inv : (x : List Entry) (u : Tunnel) (what : Deed) → Inv (λ fly q. Took E what) x u → StaysOpen x → Took E what
-      by_inv x u what (inl l) stays = (ridden (λ fly q. Took E what) x u l).so
-      by_inv x u what (inr (inl p)) stays = absurd (p.up.asks.1 stays)
-      by_inv x u what (inr (inr g)) stays = absurd (g.asked stays)
-
   pub hears : (te : TunnelEvent) → Inv E r t → MayHappen Commissions t te → IsCalm t te → May r (item_of t te) (step t te).now → (item : Item) → item_of t te ≡ Some item → HearsAt te item
-  hears (Down age) inv can calm may item is = got_hears age inv can calm may item is
-  hears (Send octets) inv can calm may item is = put_hears (Send octets) item (subst IsPut (same_item (Put octets) item is) tt)
-  hears (From endpoint octets) inv can calm may item is = put_hears (From endpoint octets) item (subst IsPut (same_item (Put octets) item is) tt)
-  hears Renew inv can calm may item is = put_hears Renew item (subst IsPut (same_item Renewed item is) tt)
-  hears (Pass ms) inv can calm may item is = put_hears (Pass ms) item (subst IsPut (same_item Quiet item is) tt)
-  hears (Up age) inv can calm may item is = absurd (cc)
-  hears (UpRefused age status) inv can calm may item is = absurd (cc)
-  hears (LoseUp age) inv can calm may item is = absurd (cc)
-  hears (LoseDown age) inv can calm may item is = absurd (cc)
-  hears (Carried con) inv can calm may item is = absurd (cc)
-  hears (tunnel.Heard frames) inv can calm may item is = absurd (cc)
-  hears Repeat inv can calm may item is = absurd (cc)
-  hears Close inv can calm may item is = absurd (cc)
-  hears Elsewhere inv can calm may item is = absurd (cc)
+  hears te inv can calm may item is = λ stays a some on none. took_means a (deed (channel r) (entry item (step t te).now)) (took_at E r t te inv can calm may item is stays) some on none
 
   pub heard_if_noted : (te : TunnelEvent) (now_log : List LogEntry) (o : Option Item) → item_of t te ≡ o → ((item : Item) → item_of t te ≡ Some item → HearsAt te item) → EachHeard jobs start now_log places → log_before (suc m) now_log ≡ log → EachHeard jobs start now_log (placed_if (suc m) (step t te).now o places)
   heard_if_noted te now_log None is f h same = h

@@ -1,6 +1,5 @@
 -- On a calm line whose client is safe and loses no time, time passes only where nothing is awaited and no job has begun, and nothing fails.
-use Rattle.std.proofs.Common.{◌≡◌, ◌≢◌, ◌⊎◌, ℕ, zero, suc, ◌+◌, ◌*◌, ◌-◌, ◌<◌, ◌≤◌, List, [], ◌∷◌, ◌++◌, length, Bool, true, false, cond, Option, Some, None, refl, sym, ◌∙◌, ap, subst, arith, inl, inr, drop, length-append}
-use Rattle.std.specs.Prelude.{◌==◌, slice_get}
+use Rattle.std.proofs.Common.{◌≡◌, ◌≢◌, ◌⊎◌, ℕ, zero, suc, ◌+◌, ◌*◌, ◌-◌, ◌<◌, ◌≤◌, List, [], ◌∷◌, ◌++◌, length, true, false, Option, Some, None, refl, sym, ◌∙◌, ap, subst, arith, inl, inr, drop, length-append}
 use Rattle.std.specs.List.{AllByRecursion}
 use Rattle.std.proofs.lemmas.Bool.{lt-ltb}
 use Rattle.knx_model.specs.declared.frames.cemi.Ldata.{Ldata}
@@ -59,10 +58,13 @@ use Rattle.calm_law.proofs.Logged.{ends_at_rest, entry_whole}
 use Rattle.calm_law.proofs.Refused.{refused_not}
 use Rattle.calm_law.proofs.Ended.{end_well}
 use Rattle.calm_law.specs.CalmChecks.{ChecksExactly, HaveOneImage, IsAnsweredRightly}
-use Rattle.calm_law.specs.CalmCounts.{AllCost, BringsSo, ComeForJobs, CostsAtMost, EachBrings, EachHeard, HeardSo, brought, frames_taken, group_requests, requests_put, strangers}
+use Rattle.calm_law.specs.CalmCounts.{AllCost, BringsSo, ComeForJobs, ComeForWrites, CostsAtMost, EachBrings, EachHeard, HeardSo, brought, frames_taken, group_requests, requests_put, some_reads, strangers}
 use Rattle.calm_law.specs.CalmEnds.{EndWell}
 use Rattle.calm_law.proofs.Spending.{spent_within}
+use Rattle.calm_law.proofs.Numbered.{each_of}
 use Rattle.calm_law.proofs.Hearing.{hears, heard_if_noted}
+use Rattle.calm_law.proofs.TurnsPut.{asks_nothing, few_requests}
+use Rattle.calm_law.proofs.Unread.{AsksNothing, none_strange}
 use Rattle.calm_law.proofs.Sharing.{Shared, shared_all, shared_first, shared_logged, shared_more}
 use Rattle.calm_law.proofs.Checked.{checks_exactly}
 use Rattle.calm_law.proofs.Rows.{Devices, Willing}
@@ -129,18 +131,6 @@ none_before (e ∷ log) = before_in 0 e log false (grind arith) ∙ none_before 
 so_far : (jobs : List Job) (turns : List GroupTurn) (count : ℕ) (log : List LogEntry) → IsLog jobs turns count log → latest log ≤ count
 so_far jobs turns count [] h = omega arith
 so_far jobs turns count (e ∷ log) h = h.0.so_far
-
-of_all : (P : Job → Type 0) (jobs : List Job) (k : ℕ) (job : Job) → AllByRecursion P jobs → slice_get jobs k ≡ Some job → P job
-of_all P [] k job h e = absurd (cc)
-of_all P (x ∷ jobs) zero job h e = (let same : x ≡ job = cc in subst P same h.0)
-of_all P (x ∷ jobs) (suc k) job h e = of_all P jobs k job h.1 e
-
-numbered : (P : Job → Type 0) (jobs : List Job) (k : ℕ) (b : Bool) (job : Job) → AllByRecursion P jobs → cond {A = Option Job} b None (slice_get jobs (k - 1)) ≡ Some job → P job
-numbered P jobs k true job h e = absurd (cc)
-numbered P jobs k false job h e = of_all P jobs (k - 1) job h e
-
-pub each_job : (P : Job → Type 0) (jobs : List Job) → AllByRecursion P jobs → (k : ℕ) (job : Job) → job_of jobs k ≡ Some job → P job
-each_job P jobs h k job e = numbered P jobs k (k == 0) job h e
 
 -- ---- the law
 
@@ -556,7 +546,7 @@ module _ (jobs : List Job) (turns : List GroupTurn) (start : World) (served : (k
       (record { idle = s.idly; nothing_failed = subst NothingFailed all s.so.fails_not }, subst (RefusesRightly jobs start events) all s.so.refuses, subst (EachBrings jobs (placed start events)) all s.so.brings, s.heard, shares_all s all)
 
 on_line_of : (jobs : List Job) (start : World) → HasDevices jobs start → (k : ℕ) (job : Job) → job_of jobs k ≡ Some job → start.devices job.device.raw ≢ None
-on_line_of jobs start devices k job is = none_not (start.devices job.device.raw) (each_job (λ (j : Job). OfDevice (λ d. d.power ≡ true) (start.devices j.device.raw)) jobs devices k job is) where
+on_line_of jobs start devices k job is = none_not (start.devices job.device.raw) (each_of (λ (j : Job). OfDevice (λ d. d.power ≡ true) (start.devices j.device.raw)) jobs devices k job is) where
   none_not : (o : Option DeviceState) → OfDevice (λ d. d.power ≡ true) o → o ≢ None
   none_not None h e = h
   none_not (Some d) h e = cc
@@ -568,7 +558,7 @@ module _ (jobs : List Job) (turns : List GroupTurn) (start : World) (events : Li
       → 2 * requests_put (entries (placed start events)) + frames_taken (entries (placed start events)) ≤ length jobs * (cost + 4) + (2 * group_requests (entries (placed start events)) + strangers start (entries (placed start events))))
   both =
       let safe = client.safe.safe in
-      right jobs turns start (each_job IsServedJob jobs served) (on_line_of jobs start devices) client.safe.fresh power log events safe.form safe.alone safe.truly client.ends client.safe.legal calm (are_short start events client.safe.fresh values calm)
+      right jobs turns start (each_of IsServedJob jobs served) (on_line_of jobs start devices) client.safe.fresh power log events safe.form safe.alone safe.truly client.ends client.safe.legal calm (are_short start events client.safe.fresh values calm)
       (record { renews = safe.renews; sends = safe.sends; acknowledges = client.acknowledges; hastens = client.hastens; asks = safe.asks; begins = client.begins })
 
   pub nothing_fails : IsPrompt jobs start log events
@@ -594,6 +584,19 @@ module _ (jobs : List Job) (turns : List GroupTurn) (start : World) (events : Li
       = subst P (entries_placed start events) (both.4 cost costs) stays in
       omega (arith, come, sums)
 
+  -- where no group telegram asks for a value, none but those of the jobs and the telegrams come
+  pub comes_for_writes : some_reads turns ≡ false → ComeForWrites jobs turns (record_of start events)
+  comes_for_writes none cost costs stays =
+      let safe = client.safe.safe in
+      let short : AreShort start events = are_short start events client.safe.fresh values calm in
+      let so : IsSo jobs turns log (placed start events) = record { renews = safe.renews; sends = safe.sends; acknowledges = client.acknowledges; hastens = client.hastens; asks = safe.asks; begins = client.begins } in
+      let keeps_all : Keeps (record_of start events) = subst Keeps (entries_placed start events) (keeps jobs turns log (placed start events) so) in
+      let asks : AsksNothing start (record_of start events) = subst (AsksNothing start) (entries_placed start events) (asks_nothing jobs turns start none log (placed start events) safe.asks) in
+      let few : group_requests (record_of start events) ≤ length turns = subst (λ (r : List Entry). group_requests r ≤ length turns) (entries_placed start events) (few_requests jobs turns (length events) start log safe.form events safe.asks) in
+      let no_other = none_strange start client.safe.fresh events client.safe.legal calm short keeps_all asks stays in
+      let come = comes_for_jobs cost costs stays in
+      omega (arith, come, few, no_other)
+
   pub ends_well : EndWell jobs log
   ends_well = end_well jobs turns start events client.safe.fresh calm (on_line_of jobs start devices) (length events) log client.safe.safe.form both.0.nothing_failed both.1
 
@@ -606,4 +609,4 @@ module _ (jobs : List Job) (turns : List GroupTurn) (start : World) (events : Li
 
   pub checks_right : IsUntouched jobs start events log → StaysDone jobs start events log → RunsWhereDone jobs start events log → AllByRecursion IsAnsweredRightly jobs → HaveOneImage jobs → ChecksExactly jobs start log
   checks_right untouched stays done answered one_image =
-      checks_exactly jobs turns start events log client.safe.fresh calm (on_line_of jobs start devices) client.safe.safe.form client.safe.safe.alone both.0.nothing_failed both.1 untouched stays done (each_job IsAnsweredRightly jobs answered) one_image
+      checks_exactly jobs turns start events log client.safe.fresh calm (on_line_of jobs start devices) client.safe.safe.form client.safe.safe.alone both.0.nothing_failed both.1 untouched stays done (each_of IsAnsweredRightly jobs answered) one_image

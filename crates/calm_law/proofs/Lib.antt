@@ -17,6 +17,7 @@ pub mod Tries
 pub mod Tally
 pub mod TunnelTold
 pub mod Scripts
+pub mod Disturbances
 pub mod Phases
 pub mod Books
 pub mod BooksMoves
@@ -46,12 +47,15 @@ pub mod Logged
 pub mod Refused
 pub mod Ended
 pub mod LogParts
+pub mod Numbered
 pub mod Checked
 pub mod JoinedLine
 pub mod JoinedSteps
 pub mod JoinedAlways
 pub mod JoinedRests
 pub mod Hearing
+pub mod Unread
+pub mod TurnsPut
 pub mod Sharing
 pub mod JoinedLaw
 pub mod Absent

@@ -48,7 +48,7 @@ module _ (w : World) where
 
   heard_calm : (b : ℕ) (o : Option Ldata) → ((f : Ldata) → o ≡ Some f → IsFrameOf b f) → IsShort o → calm.IsCalm w.tunnel (heard Comes o)
   heard_calm b None own short = tt
-  heard_calm b (Some f) own short = (indication b f (own f refl) short, tt)
+  heard_calm b (Some f) own short = (indication b f (own f refl) short.1, tt)
 
   comes_calm : (b : ℕ) (gateway : AtGateway) (o : Option Ldata) → gateway ≡ Comes → ((f : Ldata) → o ≡ Some f → IsFrameOf b f) → IsShort o → calm.IsCalm w.tunnel (heard gateway o)
   comes_calm b gateway o e own short = subst (λ g. calm.IsCalm w.tunnel (heard g o)) (sym e) (heard_calm b o own short)

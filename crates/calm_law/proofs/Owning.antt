@@ -1,5 +1,5 @@
 -- The confirmations on their way to the client are those of the frame put last.
-use Rattle.std.proofs.Common.{◌≡◌, ℕ, ◌+◌, List, [], ◌∷◌, ◌++◌, Bool, true, false, not, ◌&&◌, ◌||◌, Option, refl, sym, ap, ◌∙◌, arith}
+use Rattle.std.proofs.Common.{◌≡◌, ℕ, ◌+◌, List, [], ◌∷◌, ◌++◌, Bool, true, false, not, ◌||◌, Option, refl, sym, ap, ◌∙◌, arith}
 use Rattle.knx_model.specs.declared.frames.cemi.Ldata.{Ldata}
 use Rattle.knx_model.specs.Cemi.{Written as cemi_octets}
 use Rattle.line_model.specs.ChannelLost.{is_confirmation_of}

@@ -1,6 +1,6 @@
 -- What comes on a calm line is shared out among the jobs: each request and each frame of a device belongs to a job that is held, group telegrams and strangers aside.
-use Rattle.std.proofs.Common.{◌≡◌, ◌≢◌, ℕ, zero, suc, ◌+◌, ◌*◌, ◌-◌, ◌<◌, ◌≤◌, ◌⊎◌, List, [], ◌∷◌, length, Bool, true, false, not, ◌&&◌, cond, Option, Some, None, slice_get, refl, sym, ◌∙◌, ap, subst, inl, inr, arith}
-use Rattle.std.specs.Prelude.{is_some, nat_le, ◌==◌}
+use Rattle.std.proofs.Common.{◌≡◌, ◌≢◌, ℕ, zero, suc, ◌+◌, ◌*◌, ◌<◌, ◌≤◌, ◌⊎◌, List, [], ◌∷◌, length, Bool, true, false, not, ◌&&◌, cond, Option, Some, None, refl, sym, ◌∙◌, ap, subst, inl, inr, arith}
+use Rattle.std.specs.Prelude.{is_some, nat_le}
 use Rattle.std.proofs.lemmas.Bool.{cases_order, eq-eqb, eqb-true}
 use Rattle.std.proofs.lemmas.Bool.Decides.{nat_tests}
 use Rattle.knx_model.specs.declared.frames.cemi.Ldata.{Ldata}
@@ -20,6 +20,7 @@ use Rattle.line_model.specs.Told.{is_group}
 use Rattle.line_model.specs.World.{World}
 use Rattle.calm_law.specs.CalmCounts.{HeardSo, NoneHeld, brought, frames_taken, group_requests, is_of_device, is_of_line, is_put, is_stranger, one_for, requests_put, strangers}
 use Rattle.calm_law.proofs.Held.{AreUpto, IsTo, TakesIt, EndsIt, Else, after, after_last, after_more, after_other, after_took, ended_not, is_to as is_to_entry, taken_is, took_since}
+use Rattle.calm_law.proofs.Numbered.{within}
 use Rattle.calm_law.proofs.LogParts.{form_below, taken_split, untaken_before}
 
 -- ---- sums over the jobs
@@ -46,28 +47,6 @@ pub sum_bound : (n : ℕ) (f : ℕ → ℕ) (c : ℕ) → ((k : ℕ) → f k ≤
 unfolding sum_upto
 sum_bound zero f c le = omega arith
 sum_bound (suc n) f c le = let head = le (suc n) in let rest = sum_bound n f c le in let all : suc n * c ≡ c + n * c = omega arith in omega (arith, head, rest, all)
-
--- ---- jobs are numbered from 1
-
-none_at : (jobs : List Job) (k : ℕ) → length jobs ≤ k → slice_get jobs k ≡ None
-none_at [] zero h = refl
-none_at [] (suc k) h = refl
-none_at (x ∷ jobs) zero h = absurd (let z : suc (length jobs) ≤ 0 = h in omega (arith, z))
-none_at (x ∷ jobs) (suc k) h = none_at jobs k (let z : suc (length jobs) ≤ suc k = h in omega (arith, z))
-
-job_at : (jobs : List Job) (j : ℕ) → job_of jobs (suc j) ≡ slice_get jobs j
-job_at jobs j = let some : (suc j == 0) ≡ false = grind (arith, nat_tests) in let before : suc j - 1 ≡ j = omega arith in rw (some, before) refl
-
-numbered : (jobs : List Job) (k : ℕ) (job : Job) → job_of jobs k ≡ Some job → (1 ≤ k) × (k ≤ length jobs)
-numbered jobs zero job h = absurd (cc)
-numbered jobs (suc j) job h = (
-  omega arith,
-  elim (cases_order j (length jobs)) [
-    | inl same ↦ absurd (let z : None ≡ Some job = sym (job_at jobs j ∙ none_at jobs j (omega (arith, same))) ∙ h in cc)
-    | inr (inl less) ↦ omega (arith, less)
-    | inr (inr more) ↦ absurd (let z : None ≡ Some job = sym (job_at jobs j ∙ none_at jobs j (omega (arith, more))) ∙ h in cc)
-  ],
-)
 
 -- ---- the shares
 
@@ -131,9 +110,9 @@ module _ (jobs : List Job) (turns : List GroupTurn) (start : World) (log : List 
 
   gains_of : (k worker since w : ℕ) (job : Job) → job_of jobs k ≡ Some job → state_of k log ≡ Held worker since → w ≤ weight job.device.raw → Gains w
   gains_of k worker since w job there held le =
-      let within = numbered jobs k job there in
+      let numbered = within jobs k job there in
       let g = grows k worker since job there held in
-      sum_more (length jobs) s.shares shares k w no_less within.0 within.1 (omega (arith, g, le))
+      sum_more (length jobs) s.shares shares k w no_less numbered.0 numbered.1 (omega (arith, g, le))
 
   -- what this entry brings is shared out
   abbrev Fair : Deed → Type 0

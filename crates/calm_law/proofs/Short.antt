@@ -7,7 +7,7 @@ use Rattle.line_model.specs.World.{World, Event, DevSend, DevRepeat, waiting_at,
 -- its TPDU is one that is sent
 abbrev pub IsShort : Option Ldata → Type 0
 IsShort None = Unit {0}
-IsShort (Some frame) = length frame.tpdu ≤ most_octets
+IsShort (Some frame) = (1 ≤ length frame.tpdu) × (length frame.tpdu ≤ most_octets)
 
 abbrev pub SendsShort : World → Event → Type 0
 SendsShort w (DevSend device gateway left_out) = IsShort (waiting_at w device)

@@ -1,4 +1,4 @@
--- On a calm line each frame that a device sends fits into a request, where the values that it holds at the beginning fit into a response.
+-- On a calm line each frame that a device sends has a TPDU that fits into a request, where the values that it holds at the beginning fit into a response.
 use Rattle.std.proofs.Common.{◌≡◌, ℕ, ◌≤◌, List, [], ◌∷◌, ◌++◌, length, drop, Bool, true, false, cond, Option, Some, None, refl, sym, subst, arith}
 use Rattle.std.specs.Prelude.{◌==◌}
 use Rattle.knx_model.specs.declared.address.IndAddr.{IndAddr}
@@ -31,7 +31,7 @@ use Rattle.calm_law.proofs.Short.{IsShort, SendsShort, AreShort}
 use Rattle.calm_law.proofs.ShortValues.{RangedService, ranged_group, AllFit, value_in_fits, written_fit, zeros_fit, either_all}
 
 abbrev IsFew : List ℕ → Type 0
-IsFew octets = length octets ≤ 64
+IsFew octets = (1 ≤ length octets) × (length octets ≤ 64)
 
 abbrev EndIsFew : DeviceEnd → Type 0
 EndIsFew Closed = Unit {0}
@@ -69,9 +69,9 @@ took_if false x y h k = k
 idle_few : (s : Session) (f : TransportFrame) → TookFew (idle_took s f)
 idle_few s Connect = tt
 idle_few s Disconnect = tt
-idle_few s (Ack number) = took_if (is_before number s.number) _ _ tt (omega arith)
+idle_few s (Ack number) = took_if (is_before number s.number) _ _ tt (omega arith, omega arith)
 idle_few s (Nak number) = tt
-idle_few s (Numbered number apdu) = took_if (number == s.expected) _ _ (omega arith) (took_if (is_before number s.expected) _ _ (omega arith) (omega arith))
+idle_few s (Numbered number apdu) = took_if (number == s.expected) _ _ (omega arith, omega arith) (took_if (is_before number s.expected) _ _ (omega arith, omega arith) (omega arith, omega arith))
 idle_few s Other = tt
 
 answering_few : (s : Session) (f : TransportFrame) → TookFew (answering_took s f)
@@ -83,7 +83,7 @@ answering_few s (Numbered number apdu) = took_if (number == s.expected) _ _ tt (
 answering_few s Other = tt
 
 other_few : (f : TransportFrame) → TookFew (other_sender_took f)
-other_few Connect = omega arith
+other_few Connect = (omega arith, omega arith)
 other_few Disconnect = tt
 other_few (Ack number) = tt
 other_few (Nak number) = tt
@@ -95,7 +95,7 @@ closed_few Connect = tt
 closed_few Disconnect = tt
 closed_few (Ack number) = tt
 closed_few (Nak number) = tt
-closed_few (Numbered number apdu) = omega arith
+closed_few (Numbered number apdu) = (omega arith, omega arith)
 closed_few Other = tt
 
 took_few : (e : DeviceEnd) (from : IndAddr) (f : TransportFrame) → TookFew (device_took e from f)
@@ -137,7 +137,7 @@ after_few e from now (took.Closed answer) h = left_few e from h
 
 numbered_few : (n : ℕ) (v : List ℕ) → IsApdu v → IsFew (numbered_data n v)
 numbered_few n [] h = absurd h
-numbered_few n (x ∷ rest) h = (let few = h.2 in omega (arith, few))
+numbered_few n (x ∷ rest) h = (omega arith, (let few = h.2 in omega (arith, few)))
 
 answer_few : (e : DeviceEnd) (v : List ℕ) (now : ℕ) → EndIsFew e → IsApdu v → EndIsFew (after_answer e v now)
 unfolding after_answer
@@ -184,13 +184,13 @@ acted_few d from now (took.Closed (Some octets)) h t = queued_few d (own_frame d
 
 response_few : (d : DeviceState) (group : ℕ) (o : Option Value) → Few d → FitsResponse o → Few (with_response d group o)
 response_few d group None h g = h
-response_few d group (Some value) h g = queued_few d (own_frame d.address true group (response_octets value)) h g
+response_few d group (Some value) h g = queued_few d (own_frame d.address true group (response_octets value)) h (omega arith, g)
 
 answered_by_few : (d : DeviceState) (group : ℕ) (o : Option ℕ) → Few d → Few (answered_by d group o)
 answered_by_few d group None h = h
 answered_by_few d group (Some o) h = response_few d group (value_of d o) h (value_in_fits d.values o (runs d.kept) h.values)
 
-telegram_few : (d : DeviceState) (group : ℕ) (image : Option Image) (s : Option GroupService) → Few d → RangedService s → Few (telegram_taken d group image s)
+telegram_few : (d : DeviceState) (group : ℕ) (image : Option Image) (s : Option GroupService) → Few d → RangedService (Unit {0}) s → Few (telegram_taken d group image s)
 telegram_few d group None s h r = h
 telegram_few d group (Some image) None h r = h
 telegram_few d group (Some image) (Some Read) h r = answered_by_few d group (answerer image group Read) h
@@ -212,7 +212,7 @@ taken_few d f now TooLong h = h
 taken_few d f now Off h = h
 taken_few d f now Taken h =
     last_few (cond f.group (taken_group d f) (taken_alone d f now Whole)) (Some f)
-    (either_few f.group (taken_group d f) (taken_alone d f now Whole) (telegram_few d f.destination (runs d.kept) (group_service (service_in f.tpdu)) h (ranged_group f.tpdu))
+    (either_few f.group (taken_group d f) (taken_alone d f now Whole) (telegram_few d f.destination (runs d.kept) (group_service (service_in f.tpdu)) h (ranged_group (Unit {0}) f.tpdu (λ read. tt)))
     (acted_few (record d { connection = device_after d.connection (sender f) now (connection_took d f) }) (sender f) now (connection_took d f)
     (record { unsent = h.unsent; connection = after_few d.connection (sender f) now (connection_took d f) h.connection; values = h.values }) (took_few d.connection (sender f) _)))
 
@@ -240,7 +240,7 @@ shut_few : (d : DeviceState) → Few d → Few (shut d)
 shut_few d h = by_partner (partner_of d.connection) where
   by_partner : (o : Option IndAddr) → Few (shut_from d o)
   by_partner None = h
-  by_partner (Some partner) = queued_few (record d { connection = Closed }) (own_frame d.address false partner.raw disconnect) (record { unsent = h.unsent; connection = tt; values = h.values }) (omega arith)
+  by_partner (Some partner) = queued_few (record d { connection = Closed }) (own_frame d.address false partner.raw disconnect) (record { unsent = h.unsent; connection = tt; values = h.values }) (omega arith, omega arith)
 
 -- ---- all devices
 

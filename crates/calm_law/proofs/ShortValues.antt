@@ -22,129 +22,145 @@ use Rattle.calm_law.specs.CalmLine.{FitsResponse}
 
 -- ---- what octets ask for
 
-abbrev Ranged : Option Apdu → Type 0
-Ranged (Some (GroupWrite value)) = FitsResponse (Some value)
-Ranged (Some (GroupResponse value)) = FitsResponse (Some value)
-Ranged _ = Unit {0}
+-- octets that may ask for a value: of no connection, and with the ten bits of a group read
+abbrev pub HasReadCode : List ℕ → Type 0
+HasReadCode [] = ⊥
+HasReadCode (first ∷ []) = ⊥
+HasReadCode (first ∷ second ∷ rest) = (nat_lt first 4 ≡ true) × ((service (code_of first second) == 0x000) ≡ true)
 
-ranged_if : (b : Bool) (x y : Option Apdu) → Ranged x → Ranged y → Ranged (cond b x y)
-ranged_if true x y h k = h
-ranged_if false x y h k = k
+-- a value that is brought fits, and where one is asked for G holds
+module _ (G : Type 0) where
+  abbrev Ranged : Option Apdu → Type 0
+  Ranged (Some GroupRead) = G
+  Ranged (Some (GroupWrite value)) = FitsResponse (Some value)
+  Ranged (Some (GroupResponse value)) = FitsResponse (Some value)
+  Ranged _ = Unit {0}
 
-ranged_bare : (a : Apdu) (l : List ℕ) → Ranged (Some a) → Ranged (bare a l)
-ranged_bare a [] h = h
-ranged_bare a (x ∷ l) h = tt
+  ranged_if : (b : Bool) (x y : Option Apdu) → Ranged x → Ranged y → Ranged (cond b x y)
+  ranged_if true x y h k = h
+  ranged_if false x y h k = k
 
-ranged_map : {X : Type 0} (f : X → Apdu) (o : Option X) → ((x : X) → Ranged (Some (f x))) → Ranged (option_map f o)
-ranged_map f None h = tt
-ranged_map f (Some x) h = h x
+  -- the first where the test holds
+  ranged_where_so : (b : Bool) (x y : Option Apdu) → (b ≡ true → Ranged x) → Ranged y → Ranged (cond b x y)
+  ranged_where_so true x y h k = h refl
+  ranged_where_so false x y h k = k
 
-ranged_addressed : (make : ℕ → List ℕ → Option Apdu) (l : List ℕ) → ((a : ℕ) (os : List ℕ) → Ranged (make a os)) → Ranged (addressed make l)
-ranged_addressed make [] h = tt
-ranged_addressed make (x ∷ []) h = tt
-ranged_addressed make (x ∷ y ∷ l) h = h (256 * x + y) l
+  ranged_bare : (a : Apdu) (l : List ℕ) → Ranged (Some a) → Ranged (bare a l)
+  ranged_bare a [] h = h
+  ranged_bare a (x ∷ l) h = tt
 
-ranged_property : (make : ℕ → ℕ → ℕ → ℕ → List ℕ → Option Apdu) (l : List ℕ) → ((a b c d : ℕ) (os : List ℕ) → Ranged (make a b c d os)) → Ranged (of_property make l)
-ranged_property make [] h = tt
-ranged_property make (x ∷ []) h = tt
-ranged_property make (x ∷ y ∷ []) h = tt
-ranged_property make (x ∷ y ∷ z ∷ []) h = tt
-ranged_property make (x ∷ y ∷ z ∷ u ∷ l) h = h x y (z / 16) (256 * (z % 16) + u) l
+  ranged_map : {X : Type 0} (f : X → Apdu) (o : Option X) → ((x : X) → Ranged (Some (f x))) → Ranged (option_map f o)
+  ranged_map f None h = tt
+  ranged_map f (Some x) h = h x
 
-ranged_where : (b : Bool) (a : Apdu) → Ranged (Some a) → Ranged (where_it b a)
-ranged_where true a h = h
-ranged_where false a h = tt
+  ranged_addressed : (make : ℕ → List ℕ → Option Apdu) (l : List ℕ) → ((a : ℕ) (os : List ℕ) → Ranged (make a os)) → Ranged (addressed make l)
+  ranged_addressed make [] h = tt
+  ranged_addressed make (x ∷ []) h = tt
+  ranged_addressed make (x ∷ y ∷ l) h = h (256 * x + y) l
 
-ranged_descriptor : (kind : ℕ) (l : List ℕ) → Ranged (descriptor_in kind l)
-ranged_descriptor kind l = ranged_if (kind == 0x3F) _ _ (ranged_bare (DescriptorResponse kind None) l tt) (ranged_map (λ value. DescriptorResponse kind (Some value)) (word_in l) (λ x. tt))
+  ranged_property : (make : ℕ → ℕ → ℕ → ℕ → List ℕ → Option Apdu) (l : List ℕ) → ((a b c d : ℕ) (os : List ℕ) → Ranged (make a b c d os)) → Ranged (of_property make l)
+  ranged_property make [] h = tt
+  ranged_property make (x ∷ []) h = tt
+  ranged_property make (x ∷ y ∷ []) h = tt
+  ranged_property make (x ∷ y ∷ z ∷ []) h = tt
+  ranged_property make (x ∷ y ∷ z ∷ u ∷ l) h = h x y (z / 16) (256 * (z % 16) + u) l
 
-ranged_read : (code : ℕ) (o : Option ℕ) → Ranged (option_map (λ address. MemoryRead (low code) address) o)
-ranged_read code o = ranged_map (λ address. MemoryRead (low code) address) o (λ x. tt)
+  ranged_where : (b : Bool) (a : Apdu) → Ranged (Some a) → Ranged (where_it b a)
+  ranged_where true a h = h
+  ranged_where false a h = tt
 
-ranged_none : Ranged None
-ranged_none = tt
+  ranged_descriptor : (kind : ℕ) (l : List ℕ) → Ranged (descriptor_in kind l)
+  ranged_descriptor kind l = ranged_if (kind == 0x3F) _ _ (ranged_bare (DescriptorResponse kind None) l tt) (ranged_map (λ value. DescriptorResponse kind (Some value)) (word_in l) (λ x. tt))
 
--- a value is short, or has at most 14 octets
-value_fits : (code : ℕ) (rest : List ℕ) → FitsResponse (value_in code rest)
-value_fits code [] = omega arith
-value_fits code (x ∷ xs) = by_length (nat_le (length (x ∷ xs)) 14) refl where
-  by_length : (b : Bool) → nat_le (length (x ∷ xs)) 14 ≡ b → FitsResponse (where_it b (Long (x ∷ xs)))
-  by_length true e = (let n : length (x ∷ xs) ≤ 14 = grind (arith, e) in omega (arith, n))
-  by_length false e = tt
+  ranged_read : (code : ℕ) (o : Option ℕ) → Ranged (option_map (λ address. MemoryRead (low code) address) o)
+  ranged_read code o = ranged_map (λ address. MemoryRead (low code) address) o (λ x. tt)
 
-ranged_write : (o : Option Value) → FitsResponse o → Ranged (option_map GroupWrite o)
-ranged_write None h = tt
-ranged_write (Some v) h = h
+  ranged_none : Ranged None
+  ranged_none = tt
 
-ranged_response : (o : Option Value) → FitsResponse o → Ranged (option_map GroupResponse o)
-ranged_response None h = tt
-ranged_response (Some v) h = h
+  -- a value is short, or has at most 14 octets
+  value_fits : (code : ℕ) (rest : List ℕ) → FitsResponse (value_in code rest)
+  value_fits code [] = omega arith
+  value_fits code (x ∷ xs) = by_length (nat_le (length (x ∷ xs)) 14) refl where
+    by_length : (b : Bool) → nat_le (length (x ∷ xs)) 14 ≡ b → FitsResponse (where_it b (Long (x ∷ xs)))
+    by_length true e = (let n : length (x ∷ xs) ≤ 14 = grind (arith, e) in omega (arith, n))
+    by_length false e = tt
 
-ranged_apdu : (code : ℕ) (rest : List ℕ) → Ranged (apdu_in code rest)
-unfolding apdu_in
-ranged_apdu code rest =
-    ranged_if (service code == 0x000) _ _ (ranged_bare GroupRead rest tt)
-    (ranged_if (service code == 0x040) _ _ (ranged_response (value_in code rest) (value_fits code rest))
-    (ranged_if (service code == 0x080) _ _ (ranged_write (value_in code rest) (value_fits code rest))
-    (ranged_if (service code == 0x0C0) _ _ (ranged_map (λ raw. AddressWrite (record { raw = raw })) (word_in rest) (λ x. tt))
-    (ranged_if (service code == 0x100) _ _ (ranged_bare AddressRead rest tt)
-    (ranged_if (service code == 0x140) _ _ (ranged_bare AddressResponse rest tt)
-    (ranged_if (service code == 0x200) _ _ (ranged_read code (cond (nat_le 1 (low code) && nat_le (low code) most_memory_octets) (word_in rest) None))
-    (ranged_if (service code == 0x240) _ _ (ranged_addressed (λ address octets. where_it ((length octets == low code) && nat_le (length octets) most_memory_octets) (MemoryResponse address octets)) rest (λ a os. ranged_where ((length os == low code) && nat_le (length os) most_memory_octets) (MemoryResponse a os) tt))
-    (ranged_if (service code == 0x280) _ _ (ranged_addressed (λ address octets. where_it ((length octets == low code) && nat_le 1 (length octets) && nat_le (length octets) most_memory_octets) (MemoryWrite address octets)) rest (λ a os. ranged_where ((length os == low code) && nat_le 1 (length os) && nat_le (length os) most_memory_octets) (MemoryWrite a os) tt))
-    (ranged_if (service code == 0x300) _ _ (ranged_bare (DescriptorRead (low code)) rest tt)
-    (ranged_if (service code == 0x340) _ _ (ranged_descriptor (low code) rest)
-    (ranged_if (code == 0x3D5) _ _ (ranged_property (λ object property count start octets. bare (PropertyRead object property count start) octets) rest (λ a b c d os. ranged_bare (PropertyRead a b c d) os tt))
-    (ranged_if (code == 0x3D6) _ _ (ranged_property (λ object property count start octets. where_it (nat_le (length octets) most_property_octets) (PropertyResponse object property count start octets)) rest (λ a b c d os. ranged_where (nat_le (length os) most_property_octets) (PropertyResponse a b c d os) tt))
-    (ranged_if (code == 0x3D7) _ None (ranged_property (λ object property count start octets. where_it (nat_le (length octets) most_property_octets) (PropertyWrite object property count start octets)) rest (λ a b c d os. ranged_where (nat_le (length os) most_property_octets) (PropertyWrite a b c d os) tt)) ranged_none)))))))))))))
+  ranged_write : (o : Option Value) → FitsResponse o → Ranged (option_map GroupWrite o)
+  ranged_write None h = tt
+  ranged_write (Some v) h = h
 
-un_if : (b : Bool) (x y : Option Tpdu) → Ranged (unnumbered x) → Ranged (unnumbered y) → Ranged (unnumbered (cond b x y))
-un_if true x y h k = h
-un_if false x y h k = k
+  ranged_response : (o : Option Value) → FitsResponse o → Ranged (option_map GroupResponse o)
+  ranged_response None h = tt
+  ranged_response (Some v) h = h
 
-un_map : (o : Option Apdu) → Ranged o → Ranged (unnumbered (option_map tpdu.Unnumbered o))
-un_map None h = tt
-un_map (Some a) h = h
+  ranged_apdu : (code : ℕ) (rest : List ℕ) → ((service code == 0x000) ≡ true → G) → Ranged (apdu_in code rest)
+  unfolding apdu_in
+  ranged_apdu code rest read =
+      ranged_where_so (service code == 0x000) _ _ (λ is. ranged_bare GroupRead rest (read is))
+      (ranged_if (service code == 0x040) _ _ (ranged_response (value_in code rest) (value_fits code rest))
+      (ranged_if (service code == 0x080) _ _ (ranged_write (value_in code rest) (value_fits code rest))
+      (ranged_if (service code == 0x0C0) _ _ (ranged_map (λ raw. AddressWrite (record { raw = raw })) (word_in rest) (λ x. tt))
+      (ranged_if (service code == 0x100) _ _ (ranged_bare AddressRead rest tt)
+      (ranged_if (service code == 0x140) _ _ (ranged_bare AddressResponse rest tt)
+      (ranged_if (service code == 0x200) _ _ (ranged_read code (cond (nat_le 1 (low code) && nat_le (low code) most_memory_octets) (word_in rest) None))
+      (ranged_if (service code == 0x240) _ _ (ranged_addressed (λ address octets. where_it ((length octets == low code) && nat_le (length octets) most_memory_octets) (MemoryResponse address octets)) rest (λ a os. ranged_where ((length os == low code) && nat_le (length os) most_memory_octets) (MemoryResponse a os) tt))
+      (ranged_if (service code == 0x280) _ _ (ranged_addressed (λ address octets. where_it ((length octets == low code) && nat_le 1 (length octets) && nat_le (length octets) most_memory_octets) (MemoryWrite address octets)) rest (λ a os. ranged_where ((length os == low code) && nat_le 1 (length os) && nat_le (length os) most_memory_octets) (MemoryWrite a os) tt))
+      (ranged_if (service code == 0x300) _ _ (ranged_bare (DescriptorRead (low code)) rest tt)
+      (ranged_if (service code == 0x340) _ _ (ranged_descriptor (low code) rest)
+      (ranged_if (code == 0x3D5) _ _ (ranged_property (λ object property count start octets. bare (PropertyRead object property count start) octets) rest (λ a b c d os. ranged_bare (PropertyRead a b c d) os tt))
+      (ranged_if (code == 0x3D6) _ _ (ranged_property (λ object property count start octets. where_it (nat_le (length octets) most_property_octets) (PropertyResponse object property count start octets)) rest (λ a b c d os. ranged_where (nat_le (length os) most_property_octets) (PropertyResponse a b c d os) tt))
+      (ranged_if (code == 0x3D7) _ None (ranged_property (λ object property count start octets. where_it (nat_le (length octets) most_property_octets) (PropertyWrite object property count start octets)) rest (λ a b c d os. ranged_where (nat_le (length os) most_property_octets) (PropertyWrite a b c d os) tt)) ranged_none)))))))))))))
 
-un_numbered : (n : ℕ) (o : Option Apdu) → Ranged (unnumbered (option_map (tpdu.Numbered n) o))
-un_numbered n None = tt
-un_numbered n (Some a) = tt
+  un_if : (b : Bool) (x y : Option Tpdu) → (b ≡ true → Ranged (unnumbered x)) → Ranged (unnumbered y) → Ranged (unnumbered (cond b x y))
+  un_if true x y h k = h refl
+  un_if false x y h k = k
 
-ranged_service : (octets : List ℕ) → Ranged (service_in octets)
-unfolding service_in tpdu_in
-ranged_service [] = tt
-ranged_service (first ∷ []) =
-    un_if (first == 0x80) _ _ tt (un_if (first == 0x81) _ _ tt (un_if (nat_le 0xC0 first && (first % 4 == 2) && nat_lt first 256) _ _ tt (un_if (nat_le 0xC0 first && (first % 4 == 3) && nat_lt first 256) _ _ tt tt)))
-ranged_service (first ∷ second ∷ rest) =
-    un_if (nat_lt first 4) _ _ (un_map (apdu_in (code_of first second) rest) (ranged_apdu (code_of first second) rest)) (un_if (nat_le 0x40 first && nat_lt first 0x80) _ _ (un_numbered (first / 4 - 16) (apdu_in (code_of first second) rest)) tt)
+  un_map : (o : Option Apdu) → Ranged o → Ranged (unnumbered (option_map tpdu.Unnumbered o))
+  un_map None h = tt
+  un_map (Some a) h = h
 
--- ---- group services
+  un_numbered : (n : ℕ) (o : Option Apdu) → Ranged (unnumbered (option_map (tpdu.Numbered n) o))
+  un_numbered n None = tt
+  un_numbered n (Some a) = tt
 
-abbrev pub RangedService : Option GroupService → Type 0
-RangedService None = Unit {0}
-RangedService (Some Read) = Unit {0}
-RangedService (Some (Write value)) = FitsResponse (Some value)
-RangedService (Some (Response value)) = FitsResponse (Some value)
+  ranged_service : (octets : List ℕ) → (HasReadCode octets → G) → Ranged (service_in octets)
+  unfolding service_in tpdu_in
+  ranged_service [] read = tt
+  ranged_service (first ∷ []) read =
+      un_if (first == 0x80) _ _ (λ is. tt)
+      (un_if (first == 0x81) _ _ (λ is. tt) (un_if (nat_le 0xC0 first && (first % 4 == 2) && nat_lt first 256) _ _ (λ is. tt) (un_if (nat_le 0xC0 first && (first % 4 == 3) && nat_lt first 256) _ _ (λ is. tt) tt)))
+  ranged_service (first ∷ second ∷ rest) read =
+      un_if (nat_lt first 4) _ _ (λ unnumbered_is. un_map (apdu_in (code_of first second) rest) (ranged_apdu (code_of first second) rest (λ none. read (unnumbered_is, none))))
+      (un_if (nat_le 0x40 first && nat_lt first 0x80) _ _ (λ is. un_numbered (first / 4 - 16) (apdu_in (code_of first second) rest)) tt)
 
-of_apdu : (o : Option Apdu) → Ranged o → RangedService (group_service o)
-of_apdu None h = tt
-of_apdu (Some GroupRead) h = tt
-of_apdu (Some (GroupWrite v)) h = h
-of_apdu (Some (GroupResponse v)) h = h
-of_apdu (Some (AddressWrite a)) h = tt
-of_apdu (Some AddressRead) h = tt
-of_apdu (Some AddressResponse) h = tt
-of_apdu (Some (MemoryRead c a)) h = tt
-of_apdu (Some (MemoryResponse a o)) h = tt
-of_apdu (Some (MemoryWrite a o)) h = tt
-of_apdu (Some (DescriptorRead k)) h = tt
-of_apdu (Some (DescriptorResponse k v)) h = tt
-of_apdu (Some (PropertyRead o p c s)) h = tt
-of_apdu (Some (PropertyResponse o p c s d)) h = tt
-of_apdu (Some (PropertyWrite o p c s d)) h = tt
+  -- ---- group services
 
-pub ranged_group : (octets : List ℕ) → RangedService (group_service (service_in octets))
-ranged_group octets = of_apdu (service_in octets) (ranged_service octets)
+  abbrev pub RangedService : Option GroupService → Type 0
+  RangedService None = Unit {0}
+  RangedService (Some Read) = G
+  RangedService (Some (Write value)) = FitsResponse (Some value)
+  RangedService (Some (Response value)) = FitsResponse (Some value)
+
+  of_apdu : (o : Option Apdu) → Ranged o → RangedService (group_service o)
+  of_apdu None h = tt
+  of_apdu (Some GroupRead) h = h
+  of_apdu (Some (GroupWrite v)) h = h
+  of_apdu (Some (GroupResponse v)) h = h
+  of_apdu (Some (AddressWrite a)) h = tt
+  of_apdu (Some AddressRead) h = tt
+  of_apdu (Some AddressResponse) h = tt
+  of_apdu (Some (MemoryRead c a)) h = tt
+  of_apdu (Some (MemoryResponse a o)) h = tt
+  of_apdu (Some (MemoryWrite a o)) h = tt
+  of_apdu (Some (DescriptorRead k)) h = tt
+  of_apdu (Some (DescriptorResponse k v)) h = tt
+  of_apdu (Some (PropertyRead o p c s)) h = tt
+  of_apdu (Some (PropertyResponse o p c s d)) h = tt
+  of_apdu (Some (PropertyWrite o p c s d)) h = tt
+
+  pub ranged_group : (octets : List ℕ) → (HasReadCode octets → G) → RangedService (group_service (service_in octets))
+  ranged_group octets read = of_apdu (service_in octets) (ranged_service octets read)
 
 -- ---- the values of a device
 

@@ -1,11 +1,15 @@
 -- How many datagrams come to the client of a calm line: for each request that it puts the acknowledgement and the confirmation, one for each frame of a device,
--- and the connect response. The answers to heartbeats aside.
+-- and the connect response. The answers to heartbeats aside. Where no group telegram asks for a value, there are no frames of devices but those of the jobs.
 use Rattle.std.specs.Prelude.{ℕ, suc, ◌+◌, ◌*◌, ◌/◌, ◌≤◌, ◌≡◌, ◌≢◌, Bool, true, false, not, ◌&&◌, List, [], ◌∷◌, length, if◌then◌else◌, is_some, Option, Some, None}
+use Rattle.std.specs.List.{list_any}
 use Rattle.knx_model.specs.declared.config.Image.{Image}
 use Rattle.knx_model.specs.declared.frames.cemi.Ldata.{Ldata}
 use Rattle.knx_model.specs.declared.plan.Expect.{Expect}
 use Rattle.knx_model.specs.declared.plan.Expect.TheVariants.{AckOnly, Is, Note}
+use Rattle.knx_model.specs.declared.script.GroupService.{GroupService}
+use Rattle.knx_model.specs.declared.script.GroupService.TheVariants.{Read, Write, Response}
 use Rattle.knx_model.specs.Plans.{Plan, Over, Asks, Suits}
+use Rattle.line_model.specs.declared.group.GroupTurn.{GroupTurn}
 use Rattle.line_model.specs.declared.log.LogEntry.{LogEntry}
 use Rattle.line_model.specs.ChannelLost.{is_confirmation}
 use Rattle.line_model.specs.ClientView.{Deed, Puts, Takes, channel, deed}
@@ -117,6 +121,20 @@ AllCost jobs cost = (k : ℕ) (job : Job) → job_of jobs k ≡ Some job → Cos
 -- while the channel isn't asked to end
 abbrev pub ComeForJobs : List Job → World → List Entry → Type 0
 ComeForJobs jobs start r = (cost : ℕ) → AllCost jobs cost → StaysOpen r → datagrams_taken r ≤ 1 + (length jobs * (cost + 4) + (2 * group_requests r + strangers start r))
+
+-- ---- group telegrams that ask for values
+
+abbrev pub reads : GroupService → Bool
+reads Read = true
+reads (Write value) = false
+reads (Response value) = false
+
+abbrev pub some_reads : List GroupTurn → Bool
+some_reads turns = list_any (λ (turn : GroupTurn). reads turn.service) turns
+
+-- where none does, no more comes than the jobs bring, and two datagrams for each group telegram; while the channel isn't asked to end
+abbrev pub ComeForWrites : List Job → List GroupTurn → List Entry → Type 0
+ComeForWrites jobs turns r = (cost : ℕ) → AllCost jobs cost → StaysOpen r → datagrams_taken r ≤ 1 + (length jobs * (cost + 4) + 2 * length turns)
 
 -- ---- what a load and a check bring
 

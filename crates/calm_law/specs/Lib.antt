@@ -6,3 +6,4 @@ pub mod CalmSession
 pub mod CalmEnds
 pub mod CalmChecks
 pub mod CalmCounts
+pub mod CalmDisturbances

@@ -1,7 +1,7 @@
 //! The law of undisturbed lines: where nothing is lost and the client loses no time, time passes only where nothing is awaited, and nothing fails.
 #![tactic(auto)]
 
-ghost use Rattle.std.specs.Prelude.{◌≡◌, ℕ, IfSome, List, [], ◌∷◌};
+ghost use Rattle.std.specs.Prelude.{◌≡◌, ◌≤◌, ℕ, IfSome, List, [], ◌∷◌, false};
 ghost use Rattle.std.specs.List.{AllByRecursion};
 ghost use Rattle.knx_model.specs.declared.address.IndAddr.{IndAddr as Address};
 ghost use Rattle.line_model.specs.Haste.{KeepsPaces};
@@ -27,7 +27,8 @@ ghost use Rattle.calm_law.specs.CalmTunnel.{AreCalm, PutsRightly, PassesIdly, Ke
 ghost use Rattle.calm_law.specs.CalmRun.{gateway, calm_run};
 ghost use Rattle.calm_law.specs.CalmLine.{HaveShortValues, PassesIdlyOnLine};
 ghost use Rattle.calm_law.specs.CalmEnds.{EndWell};
-ghost use Rattle.calm_law.specs.CalmCounts.{ComeForJobs, ComeForRequests, CostsAtMost, EachBrings, EachHeard, check_cost, load_cost};
+ghost use Rattle.calm_law.specs.CalmCounts.{ComeForJobs, ComeForRequests, ComeForWrites, CostsAtMost, EachBrings, EachHeard, check_cost, load_cost, some_reads};
+ghost use Rattle.calm_law.specs.CalmDisturbances.{ends_met, lines_that_end};
 ghost use Rattle.knx_model.specs.declared.config.Image.{Image};
 ghost use Rattle.knx_model.specs.LoadPlan.{load_plan, check_plan};
 ghost use Rattle.calm_law.specs.CalmChecks.{ChecksExactly, HaveOneImage, IsAnsweredRightly};
@@ -90,12 +91,18 @@ pub fn undisturbing_scripts_are_calm()
     ensures { (script : Script) (start : World) (events : List Event) → IsUndisturbed script → IsLegalOnLine Commissions start events → Follows script Commissions start events → AreCalmEvents start events }
 {}
 
+/// However a run goes, it reaches no more places at which a line of its script can end an attempt of a device than there are such lines: none ends two.
+pub fn each_line_ends_one_attempt()
+    ensures { (device : ℕ) (script : Script) (start : World) (events : List Event) → ends_met device script start events ≤ lines_that_end device script }
+{}
+
 /// On a calm line whose client is safe and loses no time, where each device has power and values that fit into a response, and those of the jobs are
 /// there and serve their plans, time passes only where nothing is awaited and no job that is held has begun; and no job fails and no group telegram
 /// is lost. So it is over every order of the events, with any number of workers. A job is refused only where its device, with what it kept when the
 /// job was taken, doesn't answer the whole plan as wanted. So each job that is over was told done or refused, and one that a device answers wholly,
 /// whatever it keeps, was told done; and none brought more datagrams than its plan does, and
 /// frames of a device are taken only while a job of it is held: so until the channel is asked to end, all the jobs together bring no more than their plans do.
+/// Each group telegram is put at most once; and where none of them asks for a value, no other frame of a device comes.
 /// And no try to get a channel fails.
 pub fn nothing_fails_on_a_calm_line()
     ensures prompt { (jobs : List Job) (turns : List GroupTurn) (start : World) (events : List Event) (log : List LogEntry) → AllByRecursion IsServedJob jobs → HasDevices jobs start → HavePower start
@@ -110,6 +117,8 @@ pub fn nothing_fails_on_a_calm_line()
         → IsPromptClient jobs turns start events log → AreCalmEvents start events → HaveShortValues start → EachHeard jobs start log (placed start events) }
     ensures shared { (jobs : List Job) (turns : List GroupTurn) (start : World) (events : List Event) (log : List LogEntry) → AllByRecursion IsServedJob jobs → HasDevices jobs start → HavePower start
         → IsPromptClient jobs turns start events log → AreCalmEvents start events → HaveShortValues start → ComeForJobs jobs start (record_of start events) }
+    ensures unread { (jobs : List Job) (turns : List GroupTurn) (start : World) (events : List Event) (log : List LogEntry) → AllByRecursion IsServedJob jobs → HasDevices jobs start → HavePower start
+        → IsPromptClient jobs turns start events log → AreCalmEvents start events → HaveShortValues start → some_reads turns ≡ false → ComeForWrites jobs turns (record_of start events) }
     ensures reached { (jobs : List Job) (turns : List GroupTurn) (start : World) (events : List Event) (log : List LogEntry) → AllByRecursion IsServedJob jobs → HasDevices jobs start → HavePower start
         → IsPromptClient jobs turns start events log → AreCalmEvents start events → HaveShortValues start → tries (record_of start events) ≡ [] }
 {}

@@ -1,5 +1,5 @@
 -- The images of a project's devices.
-use Rattle.std.specs.Prelude.{◌≡◌, Bool, ◌==◌, List, None, length, map}
+use Rattle.std.specs.Prelude.{◌≡◌, ◌≤◌, Bool, ◌==◌, List, None, length, map}
 use Rattle.std.specs.List.{AllZip, list_any}
 use Rattle.std.specs.List.Sorted.{IsStrictlyIncreasing}
 use Rattle.knx_model.specs.declared.address.IndAddr.{IndAddr}
@@ -15,11 +15,12 @@ use Rattle.project_check.specs.Devices.{raw_of}
 use Rattle.table_compiler.specs.Drafts.{IsDraft}
 use Rattle.table_compiler.specs.declared.drafts.Draft.{Draft}
 
--- the compiled image of what a project says of a device: it fits, and its tables' numbers have two octets
+-- the compiled image of what a project says of a device: it fits, its tables' numbers have two octets, and its objects are numbered up to 255 at most
 pub record IsImage (project : Installation) (device : IndAddr) (image : Image) : Type 0 where
   pub stands : StandsFor image (meaning project device)
   pub fits : Fits image
   pub in_range : IsInRange (meaning project device)
+  pub few_objects : length (meaning project device).objects ≤ 255
 
 -- the compiled image of whichever device these are the lines of, in a text that breaks no rule
 pub record IsImageOfDraft (catalogue : List NamedModel) (draft : Draft) (image : Image) : Type 0 where

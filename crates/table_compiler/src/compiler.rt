@@ -1,6 +1,6 @@
 //! The image of a device, from the statements of a sound project.
 
-ghost use Rattle.std.specs.Prelude.{◌≡◌, None, List as Seq, map, All, IsPermutation, IfOk};
+ghost use Rattle.std.specs.Prelude.{◌≡◌, ◌≤◌, None, length, List as Seq, map, All, IsPermutation, IfOk};
 ghost use Rattle.std.specs.List.{AllZip};
 ghost use Rattle.std.specs.List.Sorted.{IsStrictlyIncreasing};
 ghost use Rattle.knx_model.specs.declared.address.IndAddr.{IndAddr as Device};
@@ -34,6 +34,7 @@ pub fn compile(alloc: Global, checked: &Checked<'_, '_>, device: IndAddr) -> Res
     ensures stands { IfOk result (λ image. StandsFor image (meaning checked.now device)) }
     ensures fits { IfOk result (λ image. Fits image) }
     ensures in_range { IfOk result (λ _. IsInRange (meaning checked.now device)) }
+    ensures few_objects { IfOk result (λ _. length (meaning checked.now device).objects ≤ 255) }
 {
     let draft = draft_of(alloc, device, checked.statements())?;
     compile_draft(alloc, checked.catalogue(), &draft)

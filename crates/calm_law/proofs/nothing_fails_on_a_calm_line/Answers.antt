@@ -1,5 +1,5 @@
 use Rattle.calm_law.proofs.nothing_fails_on_a_calm_line.Goals as goal
-use Rattle.calm_law.proofs.JoinedLaw.{nothing_fails, refuses_rightly, ends_well, each_brings, each_heard, comes_for_jobs, no_try_fails}
+use Rattle.calm_law.proofs.JoinedLaw.{nothing_fails, refuses_rightly, ends_well, each_brings, each_heard, comes_for_jobs, comes_for_writes, no_try_fails}
 
 pub returns-clause-prompt : goal.returns-clause-prompt
 returns-clause-prompt c = nothing_fails
@@ -21,3 +21,6 @@ returns-clause-heard c = each_heard
 
 pub returns-clause-shared : goal.returns-clause-shared
 returns-clause-shared c = comes_for_jobs
+
+pub returns-clause-unread : goal.returns-clause-unread
+returns-clause-unread c = comes_for_writes

@@ -27,5 +27,8 @@ returns-clause-stands c = if_ok {P = λ image. IsImage c.args.checked.now c.args
 pub returns-clause-fits : goal.returns-clause-fits
 returns-clause-fits c = if_ok {P = λ image. IsImage c.args.checked.now c.args.device image} c.compile_draft.result (λ image h. h.fits) (is c)
 
+pub returns-clause-few_objects : goal.returns-clause-few_objects
+returns-clause-few_objects c = if_ok {P = λ image. IsImage c.args.checked.now c.args.device image} c.compile_draft.result (λ image h. h.few_objects) (is c)
+
 pub returns-clause-in_range : goal.returns-clause-in_range
 returns-clause-in_range c = if_ok {P = λ image. IsImage c.args.checked.now c.args.device image} c.compile_draft.result (λ image h. h.in_range) (is c)

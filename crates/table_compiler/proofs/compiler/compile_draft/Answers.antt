@@ -54,6 +54,7 @@ returns c = if_both {P = λ image. (config : Config) → config.links ≡ c.as_s
               each_group = λ k d lt. (each k d lt).1;
               each_object = λ k d lt. omega (arith, (each k d lt).0);
             };
+            few_objects = omega (arith, ap length objects, ap length c.as_slice-4.ensures.value, c.in_ok-objects.ensures.few);
           };
     })
     c.image_of.ensures.stands c.image_of.ensures.fits
