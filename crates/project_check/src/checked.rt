@@ -6,16 +6,19 @@ ghost use Rattle.knx_model.specs.declared.refusal.Why.TheVariants.{NoMemory as O
 ghost use Rattle.knx_model.specs.Counts.{counts_of};
 ghost use Rattle.knx_model.specs.Rules.{first_broken, devices_of, has_device};
 ghost use Rattle.project_check.specs.Devices.{raw_of};
+ghost use Rattle.project_check.specs.Links.{IsFirstRepeat};
 
 use crate::counted::totals_of;
 use crate::devices::{ascending_devices, first_device};
 use crate::earlier::Earlier;
+use crate::links::{first_repeat, first_repeat_in_threads};
 use crate::named_models::NamedModels;
 use crate::rules::Whole;
 use knx_model::{Catalogue, Counts, IndAddr, NoMemory, Refused, Statement, Why};
 use project_text::Project;
 use std::alloc::{AllocError, Global};
 use std::marker::Model;
+use std::thread::Threads;
 
 /// A project that breaks no rule, with its catalogue and its devices, ascending.
 #[derive(Drop)]
@@ -87,17 +90,19 @@ impl<'b, 'a> Checked<'b, 'a> {
     }
 }
 
-/// The first statement that breaks a rule.
+/// The first statement that breaks a rule, where the first that repeats a link is known.
 fn first_broken(
     alloc: Global,
     catalogue: &Catalogue,
     statements: &[Statement<'_>],
+    first_repeat: Option<usize>,
 ) -> Result<Option<Refused>, AllocError>
+    requires { IsFirstRepeat statements.now first_repeat }
     ensures found { IfOk result (λ found. found ≡ first_broken catalogue.now statements.now) }
     ensures never { IfOk result (λ found. IfSome found (λ refused. refused.why ≢ OutOfMemory tt)) }
 {
     let models = NamedModels::of(alloc, catalogue, statements)?;
-    let whole = Whole::of(alloc, &models, statements)?;
+    let whole = Whole::of(alloc, &models, statements, first_repeat)?;
     let mut earlier = Earlier::new(alloc)?;
     for (place, statement) in statements.iter().enumerate() {
         let repeated = earlier.add(statement)?;
@@ -109,6 +114,38 @@ fn first_broken(
         }
     }
     Ok(None)
+}
+
+/// The rules are checked, where the first statement that repeats a link is known.
+fn check_rules<'b, 'a>(
+    alloc: Global,
+    project: &'b Project<'a>,
+    catalogue: &'b Catalogue,
+    first_repeat: Option<usize>,
+) -> Result<Checked<'b, 'a>, Refused>
+    requires { IsFirstRepeat project.now.statements first_repeat }
+    ensures checked { IfOk result (λ c. c ≡ record { statements = project.now.statements; catalogue = catalogue.now }) }
+    ensures sound { OnOk result (first_broken catalogue.now project.now.statements ≡ None) }
+    ensures refused { IfErr result (λ e. e.why ≢ OutOfMemory tt → first_broken catalogue.now project.now.statements ≡ Some e) }
+    ensures memory { IfErr result (λ e. e.why ≡ OutOfMemory tt → e.line ≡ 0) }
+{
+    match first_broken(
+        alloc,
+        catalogue,
+        project.statements.as_slice(),
+        first_repeat,
+    ) {
+        Ok(None) => match ascending_devices(alloc, project.statements.as_slice()) {
+            Ok(devices) => Ok(Checked {
+                project,
+                catalogue,
+                devices,
+            }),
+            Err(error) => Err(out_of_memory(error)),
+        },
+        Ok(Some(refused)) => Err(refused),
+        Err(error) => Err(out_of_memory(error)),
+    }
 }
 
 /// Checks the rules that look at the whole text and at the catalogue. At `Err` it gives the least line that breaks one, with its
@@ -123,16 +160,26 @@ pub fn check<'b, 'a>(
     ensures refused { IfErr result (λ e. e.why ≢ OutOfMemory tt → first_broken catalogue.now project.now.statements ≡ Some e) }
     ensures memory { IfErr result (λ e. e.why ≡ OutOfMemory tt → e.line ≡ 0) }
 {
-    match first_broken(alloc, catalogue, project.statements.as_slice()) {
-        Ok(None) => match ascending_devices(alloc, project.statements.as_slice()) {
-            Ok(devices) => Ok(Checked {
-                project,
-                catalogue,
-                devices,
-            }),
-            Err(error) => Err(out_of_memory(error)),
-        },
-        Ok(Some(refused)) => Err(refused),
+    match first_repeat(alloc, project.statements.as_slice()) {
+        Ok(first_repeat) => check_rules(alloc, project, catalogue, first_repeat),
+        Err(error) => Err(out_of_memory(error)),
+    }
+}
+
+/// The same as `check`, where the links are sorted in as many threads as there are processors.
+pub fn check_in_threads<'b, 'a, R: Threads + Sync>(
+    rt: &R,
+    alloc: Global,
+    project: &'b Project<'a>,
+    catalogue: &'b Catalogue,
+) -> Result<Checked<'b, 'a>, Refused>
+    ensures checked { IfOk result (λ c. c ≡ record { statements = project.now.statements; catalogue = catalogue.now }) }
+    ensures sound { OnOk result (first_broken catalogue.now project.now.statements ≡ None) }
+    ensures refused { IfErr result (λ e. e.why ≢ OutOfMemory tt → first_broken catalogue.now project.now.statements ≡ Some e) }
+    ensures memory { IfErr result (λ e. e.why ≡ OutOfMemory tt → e.line ≡ 0) }
+{
+    match first_repeat_in_threads(rt, alloc, project.statements.as_slice()) {
+        Ok(first_repeat) => check_rules(alloc, project, catalogue, first_repeat),
         Err(error) => Err(out_of_memory(error)),
     }
 }

@@ -17,6 +17,6 @@ mod named_models;
 mod rules;
 
 pub use by_address::ByAddress;
-pub use checked::{Checked, check};
+pub use checked::{Checked, check, check_in_threads};
 pub use knx_model::Counts;
 pub use laws::least_broken;

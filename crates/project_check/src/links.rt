@@ -5,7 +5,9 @@ ghost use Rattle.knx_model.specs.declared.project.Statement.{Statement as Stated
 ghost use Rattle.project_check.specs.Links.{link_in, link_eq, lesser, lines_of, link_lines, IsLeastRepeat, IsFirstRepeat};
 
 use knx_model::{Statement, What};
+use rayon::prelude::*;
 use std::alloc::{AllocError, Global};
+use std::thread::Threads;
 
 /// A link: the raw address of its device, its object there, and its raw group.
 #[derive(Clone, Copy, PartialEq, Eq, PartialOrd, Ord)]
@@ -97,9 +99,33 @@ fn least_repeat(links: &[LinkLine]) -> Option<usize>
 }
 
 /// The place of the first `link` line that repeats an earlier one.
-pub fn first_repeat(mut links: Vec<LinkLine>) -> Option<usize>
-    ensures { (ss : List Stated) → links.items ≡ link_lines ss → IsFirstRepeat ss result }
+pub fn first_repeat(
+    alloc: Global,
+    statements: &[Statement<'_>],
+) -> Result<Option<usize>, AllocError>
+    ensures { IfOk result (IsFirstRepeat statements.now) }
 {
+    let mut links = link_lines(alloc, statements)?;
     links.sort_unstable();
-    least_repeat(links.as_slice())
+    Ok(least_repeat(links.as_slice()))
+}
+
+/// The place of the first of these `link` lines that repeats an earlier one. They are sorted in threads.
+fn sorted_repeat<R: Threads + Sync>(rt: &R, links: &mut [LinkLine]) -> Option<usize>
+    ensures { (ss : List Stated) → links.old ≡ link_lines ss → IsFirstRepeat ss result }
+{
+    par_sort_unstable(rt, links);
+    least_repeat(links)
+}
+
+/// The same as `first_repeat`, where the lines are sorted in as many threads as there are processors.
+pub fn first_repeat_in_threads<R: Threads + Sync>(
+    rt: &R,
+    alloc: Global,
+    statements: &[Statement<'_>],
+) -> Result<Option<usize>, AllocError>
+    ensures { IfOk result (IsFirstRepeat statements.now) }
+{
+    let mut links = link_lines(alloc, statements)?;
+    Ok(sorted_repeat(rt, links.as_mut_slice()))
 }

@@ -7,7 +7,7 @@ ghost use Rattle.knx_model.specs.declared.project.What.TheVariants.{Device as De
 ghost use Rattle.knx_model.specs.Rules.{rule_of, some_line, duplicate_object, duplicate_link, size_of_first, first_linked, differ};
 ghost use Rattle.project_check.specs.Keys.{names_model};
 ghost use Rattle.project_check.specs.Knowing.{AreNamed, DeclaresAll, repeats, IsNamed};
-ghost use Rattle.project_check.specs.Links.{is_at};
+ghost use Rattle.project_check.specs.Links.{IsFirstRepeat, is_at};
 
 use crate::broken::first_broken_rule;
 use crate::by_address::ByAddress;
@@ -15,7 +15,7 @@ use crate::declared::{Declared, first_objects};
 use crate::earlier::{MOST_DEVICES, MOST_LINKS, Repeated};
 use crate::group_object::GroupObject;
 use crate::known::KnownObject;
-use crate::links::{first_repeat, link_lines};
+use crate::links::link_lines;
 use crate::named_models::NamedModels;
 use knx_model::{GroupAddr, IndAddr, Statement, What, Why};
 use std::alloc::{AllocError, Global};
@@ -51,12 +51,14 @@ fn differ(one: Option<u8>, other: Option<u8>) -> bool
 }
 
 impl<'b, 'a> Whole<'b, 'a> {
-    /// What is known of these statements.
+    /// What is known of these statements, of which this is the first that repeats a link.
     pub fn of(
         alloc: Global,
         models: &'b NamedModels<'a>,
         statements: &'a [Statement<'a>],
+        first_repeat: Option<usize>,
     ) -> Result<Whole<'b, 'a>, AllocError>
+        requires { IsFirstRepeat statements.now first_repeat }
         ensures { IfOk result (λ whole. (catalogue : List NamedModel) → AreNamed catalogue models.now statements.now → DeclaresAll catalogue whole statements.now) }
     {
         let declared = Declared::by_all(alloc, models, statements)?;
@@ -66,7 +68,7 @@ impl<'b, 'a> Whole<'b, 'a> {
             models,
             declared,
             first_objects,
-            first_repeat: first_repeat(links),
+            first_repeat,
         })
     }
 

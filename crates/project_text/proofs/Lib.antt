@@ -5,3 +5,4 @@ pub mod Plain
 pub mod Spelling
 pub mod Steps
 pub mod Misfits
+pub mod Parts

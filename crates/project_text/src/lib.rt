@@ -12,4 +12,4 @@ pub use knx_model::{Refused, Statement, What, Why};
 pub use laws::{first_misfit, least_line, printed_again, statement_spelled, words_too_many_or_few};
 pub use print::print_project;
 pub use project::Project;
-pub use read::read_project;
+pub use read::{read_project, read_project_in_threads};

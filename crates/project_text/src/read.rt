@@ -1,14 +1,26 @@
-//! A text is read line by line.
+//! A text is read line by line, and a long one in parts side by side.
 
-ghost use Rattle.std.specs.Prelude.{◌≡◌, ◌≤◌, length, Err, OnOk, IfErr};
+ghost use Rattle.std.specs.Prelude.{◌≡◌, ◌≤◌, ◌<◌, ◌+◌, ◌++◌, length, Err, OnOk, IfOk, IfErr, IfSome};
+ghost use Rattle.std.specs.List.{count_by};
+ghost use Rattle.std.specs.Str.Lines.{lines};
+ghost use Rattle.std.specs.Thread.{IsSync};
 ghost use Rattle.knx_model.specs.Answers.{AnswersUnless};
 ghost use Rattle.knx_model.specs.Statements.{reading};
+ghost use Rattle.knx_model.specs.Words.{is_feed};
 ghost use Rattle.knx_model.specs.declared.refusal.Why.TheVariants.{NoMemory as OutOfMemory};
+ghost use Rattle.project_text.specs.Reading.{IsJoined, IsRead};
 
 use crate::line::line_in;
 use crate::project::Project;
-use knx_model::{LONGEST_TEXT, List, Refused, Why, first_line, has_plain_lines, refused_at};
+use knx_model::{
+    LONGEST_TEXT, List, NoMemory, Refused, Statement, Why, first_line, has_plain_lines, refused_at,
+};
+use memchr::memrchr;
 use std::alloc::Global;
+use std::thread::{Threads, join};
+
+/// The octets of a text that one thread reads; a longer one is cut.
+const LONGEST_PART: usize = 1 << 19;
 
 /// A text has at most 4,194,304 octets; a longer one is refused at line 0.
 fn fits(octets: &[u8]) -> Result<(), Refused>
@@ -27,17 +39,14 @@ fn fits(octets: &[u8]) -> Result<(), Refused>
     Ok(())
 }
 
-/// The statements of a text of at most 4,194,304 octets, or why it is refused: the least line that breaks a rule, and the
-/// rule. Line 0 stands for a text that is too long and for want of memory.
-pub fn read_project(alloc: Global, octets: &[u8]) -> Result<Project<'_>, Refused>
-    // What is read is what the text says, and a refusal is the text's, unless memory ran out.
-    ensures read { AnswersUnless (λ e. e.why ≡ OutOfMemory tt) (λ p. p.statements) result (reading octets.now) }
-    ensures memory { IfErr result (λ e. e.why ≡ OutOfMemory tt → e.line ≡ 0) }
+/// The statements of lines that are numbered from `first`; or the first line that breaks a rule, and the rule.
+fn read_lines(alloc: Global, first: u32, octets: &[u8]) -> Result<List<Statement<'_>>, Refused>
+    requires { first + length octets.now ≤ 4194305 }
+    ensures { IsRead first octets.now result }
 {
-    fits(octets)?;
     let mut statements = List::new(alloc);
     let is_plain = has_plain_lines(octets);
-    let mut line = 1;
+    let mut line = first;
     let mut rest = octets;
     while let Some((text, after)) = first_line(rest) {
         if let Err(why) = line_in(&mut statements, line, text, is_plain) {
@@ -46,5 +55,108 @@ pub fn read_project(alloc: Global, octets: &[u8]) -> Result<Project<'_>, Refused
         line += 1;
         rest = after;
     }
-    Ok(Project { statements })
+    Ok(statements)
+}
+
+/// A text cut in two behind the last line feed of its first half, where there is one.
+fn halves(octets: &[u8]) -> Option<(&[u8], &[u8])>
+    ensures lines { IfSome result (λ x. lines octets.now ≡ lines x.0.now ++ lines x.1.now) }
+    ensures feeds { IfSome result (λ x. length (lines x.0.now) ≡ count_by is_feed x.0.now) }
+    ensures whole { IfSome result (λ x. length octets.now ≡ length x.0.now + length x.1.now) }
+    ensures front { IfSome result (λ x. 0 < length x.0.now) }
+    ensures back { IfSome result (λ x. 0 < length x.1.now) }
+{
+    let at = memrchr(b'\n', &octets[..octets.len() / 2])?;
+    Some(octets.split_at(at + 1))
+}
+
+/// How many line feeds there are.
+fn feeds_in(octets: &[u8]) -> usize
+    ensures { result ≡ count_by is_feed octets.now }
+{
+    let mut feeds = 0;
+    for octet in octets {
+        feeds += usize::from(*octet == b'\n');
+    }
+    feeds
+}
+
+/// What lines say, and behind it what later lines say; or the first refusal of the two.
+fn joined<'a>(
+    said: Result<List<Statement<'a>>, Refused>,
+    later: Result<List<Statement<'a>>, Refused>,
+) -> Result<List<Statement<'a>>, Refused>
+    ensures { IsJoined said.entry later.entry result }
+{
+    let mut all = said?.into_vec();
+    let mut more = later?.into_vec();
+    match all.append(&mut more) {
+        Ok(()) => Ok(List::from_vec(all)),
+        Err(error) => Err(Refused {
+            line: 0,
+            why: Why::NoMemory(NoMemory::from(error)),
+        }),
+    }
+}
+
+/// The same as `read_lines`. A long text is cut in two, and each half is read in a thread of its own.
+#[cycle(parts)]
+fn read_parts<'a, R: Threads + Sync>(
+    rt: &R,
+    alloc: Global,
+    first: u32,
+    octets: &'a [u8],
+) -> Result<List<Statement<'a>>, Refused>
+    requires { first + length octets.now ≤ 4194305 }
+    ensures { IsRead first octets.now result }
+{
+    if octets.len() <= LONGEST_PART {
+        return read_lines(alloc, first, octets);
+    }
+    let Some((front, back)) = halves(octets) else {
+        return read_lines(alloc, first, octets);
+    };
+    let behind = first + feeds_in(front) as u32;
+    let (said, later) = join(
+        rt,
+        || -> Result<List<Statement<'_>>, Refused>
+            requires { IsSync R.row × (first + length front.now ≤ 4194305) }
+            ensures { IsRead first front.entry.now result }
+        { read_parts(rt, alloc, first, front) },
+        || -> Result<List<Statement<'_>>, Refused>
+            requires { IsSync R.row × (behind + length back.now ≤ 4194305) }
+            ensures { IsRead behind back.entry.now result }
+        { read_parts(rt, alloc, behind, back) },
+    );
+    joined(said, later)
+}
+
+/// The statements of a text of at most 4,194,304 octets, or why it is refused: the least line that breaks a rule, and the
+/// rule. Line 0 stands for a text that is too long and for want of memory.
+pub fn read_project(alloc: Global, octets: &[u8]) -> Result<Project<'_>, Refused>
+    // What is read is what the text says, and a refusal is the text's, unless memory ran out.
+    ensures read { AnswersUnless (λ e. e.why ≡ OutOfMemory tt) (λ p. p.statements) result (reading octets.now) }
+    ensures memory { IfErr result (λ e. e.why ≡ OutOfMemory tt → e.line ≡ 0) }
+{
+    fits(octets)?;
+    match read_lines(alloc, 1, octets) {
+        Ok(statements) => Ok(Project { statements }),
+        Err(refused) => Err(refused),
+    }
+}
+
+/// The same as `read_project`. The parts of a long text are read side by side, in threads of their own.
+pub fn read_project_in_threads<'a, R: Threads + Sync>(
+    rt: &R,
+    alloc: Global,
+    octets: &'a [u8],
+) -> Result<Project<'a>, Refused>
+    ensures read { AnswersUnless (λ e. e.why ≡ OutOfMemory tt) (λ p. p.statements) result (reading octets.now) }
+    ensures memory { IfErr result (λ e. e.why ≡ OutOfMemory tt → e.line ≡ 0) }
+{
+    fits(octets)?;
+    match read_parts(rt, alloc, 1, octets) {
+        Ok(statements) => Ok(Project { statements }),
+        Err(refused) => Err(refused),
+    }
 }

@@ -10,5 +10,5 @@ returns c = λ catalogue named.
       models = named;
       declared = declared;
       first_objects = c.in_ok-first_objects.ensures catalogue ss declared (c.as_slice.ensures.value ∙ lines);
-      first_repeat = c.first_repeat.ensures ss lines;
+      first_repeat = c.requires;
     }

@@ -2,7 +2,7 @@ use Rattle.std.proofs.Common.{◌≡◌, None, sym, ap, ◌∙◌}
 use Rattle.std.specs.Prelude.{IsPermutation}
 use Rattle.knx_model.specs.Rules.{first_broken, devices_of}
 use Rattle.project_check.proofs.Ascending.{sorted_ascend}
-use Rattle.project_check.proofs.checked.check.Goals as goal
+use Rattle.project_check.proofs.checked.check_rules.Goals as goal
 
 pub invariant_of-result : goal.invariant_of-result
 invariant_of-result c =
