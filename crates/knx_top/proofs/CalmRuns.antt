@@ -35,12 +35,12 @@ plain : (failed : Bool) (ending : Status) → ending ≡ cond failed status.Some
 plain true ending is = inr is
 plain false ending is = inl is
 
-pub never_more : (n : ℕ) → n ≡ flood → n < flood → ⊥
+never_more : (n : ℕ) → n ≡ flood → n < flood → ⊥
 never_more n is few = let less : flood < flood = subst (λ (k : ℕ). k < flood) is few in omega (arith, less)
 
 -- ---- all of it
 
-module _ (laws : Laws) (c : Commission) (after : Left) (out out' : SinkNow) (ending : Status) (quiet : NothingDisturbs c) (within : IsWithinBounds after.line.run) where
+module _ (laws : Laws) (c : Commission) (after : Left) (out out' : SinkNow) (ending : Status) (quiet : NothingDisturbs c) (within : IsWithinBounds c.turns after.line.run) where
   module _ (whole : IsReportedWhole (λ told. ends.Reports told) c after out out' ending) where
     abbrev report : Report
     report = whole.told.report
@@ -58,7 +58,7 @@ module _ (laws : Laws) (c : Commission) (after : Left) (out out' : SinkNow) (end
       passes = plain (has_failure report.log) ending (whole.status_is ∙ ap (λ (o : Option HubFault). status_of o report.log) none);
     })
     by_fault (Some (NoMemory want)) is served = inl (whole.status_is ∙ ap (λ (o : Option HubFault). status_of o report.log) is)
-    by_fault (Some Flooded) is flooded = absurd (never_more _ flooded.count within.unflooded)
+    by_fault (Some Flooded) is flooded = absurd (never_more _ flooded.1.count (within.unflooded flooded.0))
     by_fault (Some LinkFailed) is last = absurd (within.early last)
     by_fault (Some (GatewayRefused tries)) is never = absurd never
     by_fault (Some (WrongLine device tunnel)) is never = absurd never

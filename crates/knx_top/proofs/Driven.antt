@@ -2,6 +2,7 @@
 use Rattle.std.proofs.Common.{◌≡◌, ℕ, inl, inr, List, [], ◌∷◌, ◌++◌, length, map, Option, Some, None, refl, sym, ap, ◌∙◌, subst, arith}
 use Rattle.std.specs.Prelude.{IfSome}
 use Rattle.std.specs.List.{AllByRecursion}
+use Rattle.std.proofs.lemmas.List.{length-map}
 use Rattle.bus_sim.specs.Loaded.{BusNow}
 use Rattle.bus_sim.specs.declared.clients.Clients.{Clients}
 use Rattle.bus_sim.specs.declared.clients.Clients.TheVariants.{One, Any}
@@ -151,6 +152,8 @@ driven c order workers turns line place report is by sends one goes says fresh l
       words_are = is.prepared.jobs;
       jobs = jobs;
       planned = is.prepared.plans;
+      few_jobs = omega (arith, length-map order.plans seen_job, is.prepared.few);
+      few_turns = omega (arith, ap length is.turns, ap length is.prepared.turns, is.prepared.few_turns);
       promises = keeps_promises c order line.run (log_in report) is run now_right;
       told = record {
         disciplined = subst (λ (ts : List GroupTurn). IsDisciplined jobs ts (length line.run.events) (placed (start line.run) line.run.events) (log_in report)) sends kept.disciplined;

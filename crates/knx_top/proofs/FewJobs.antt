@@ -1,5 +1,5 @@
 -- There are few jobs where words name none: one for each of at most 255 devices.
-use Rattle.std.proofs.Common.{◌≡◌, ◌≤◌, ◌<◌, ◌^◌, List, length, map, None, arith}
+use Rattle.std.proofs.Common.{◌≡◌, ◌≤◌, List, length, map, None, arith}
 use Rattle.std.specs.Prelude.{IsPermutation}
 use Rattle.std.proofs.lemmas.List.{length-map}
 use Rattle.std.proofs.lemmas.List.Sorted.{length_permutation}
@@ -21,5 +21,5 @@ loads_few project devices sound all =
     omega (arith, length-map devices load_of, counted, devices_counted project.statements, few_devices project.catalogue project.statements sound)
 
 -- and as many plans
-pub plans_few : (project : Installation) (plans : List HubJob) (jobs : List JobWord) → ArePlanned project (map seen_job plans) jobs → length jobs ≤ most_jobs → length plans < 2 ^ 32
+pub plans_few : (project : Installation) (plans : List HubJob) (jobs : List JobWord) → ArePlanned project (map seen_job plans) jobs → length jobs ≤ most_jobs → length plans ≤ most_jobs
 plans_few project plans jobs planned few = omega (arith, length-map plans seen_job, AllZip-long (IsPlanned project) (map seen_job plans) jobs planned, few)

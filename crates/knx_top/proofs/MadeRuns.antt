@@ -11,6 +11,7 @@ use Rattle.std.proofs.lemmas.List.Kept.{AllPairs-from_increasing}
 use Rattle.std.proofs.lemmas.List.Sorted.{IsPermutation-reverse, length_permutation, list_any-IsPermutation}
 use Rattle.std.proofs.lemmas.List.Sums.{sum_by-cons}
 use Rattle.std.proofs.lemmas.Slice.Zip.{AllZip-long}
+use Rattle.bus_sim.specs.Ended.{IsAtEnd}
 use Rattle.bus_sim.specs.RunNow.{RunNow, start, world}
 use Rattle.call_words.specs.declared.case.Case.{Case}
 use Rattle.call_words.specs.declared.case.Case.TheVariants.{New, Old, Stopped}
@@ -46,7 +47,7 @@ use Rattle.line_model.specs.StartOf.{is_on_bus}
 use Rattle.line_model.specs.World.{World, Event, replay}
 use Rattle.report_text.proofs.Statuses.{done_exactly}
 use Rattle.report_text.specs.LineStatus.{EachDone, is_done, status_of}
-use Rattle.knx_top.specs.Complete.{IsLoadedWhole, IsReportedWhole, IsRunTold, IsWithinBounds, counts_made}
+use Rattle.knx_top.specs.Complete.{IsLoadedWhole, IsReportedWhole, IsRunTold, counts_made}
 use Rattle.knx_top.specs.Jobs.{ArePlanned, IsPlanned, load_of}
 use Rattle.knx_top.specs.OnLine.{on_bus}
 use Rattle.knx_top.specs.Ran.{Commission, Left, Ran, log_in}
@@ -56,7 +57,7 @@ use Rattle.knx_top.specs.Host.{unless_zero}
 use Rattle.knx_top.specs.Options.{from_1_to}
 use Rattle.knx_top.specs.commands.Big.{BigWords, big_words, commission_made, made, nothing, start_value}
 use Rattle.knx_top.specs.declared.ending.End.TheVariants as ends
-use Rattle.knx_top.proofs.CalmRuns.{on_line, never_more}
+use Rattle.knx_top.proofs.CalmRuns.{on_line}
 use Rattle.knx_top.proofs.DoneCounts.{all_done, done_either_way, job_at, numbered, told_tells}
 use Rattle.knx_top.proofs.MadeDevices.{all_on, each_on, has_it, how_many, length_made, listed}
 use Rattle.knx_top.proofs.Undisturbed.{Laws, nothing_fails}
@@ -164,7 +165,7 @@ kept_over project device None other both h = absurd h
 
 -- ---- all of it
 
-module _ (laws : Laws) (words : BigWords) (some : 1 ≤ words.devices) (few : words.devices ≤ 254) (after : Left) (out out' : SinkNow) (ending : Status) (within : IsWithinBounds after.line.run) where
+module _ (laws : Laws) (words : BigWords) (some : 1 ≤ words.devices) (few : words.devices ≤ 254) (after : Left) (out out' : SinkNow) (ending : Status) (early : ¬ IsAtEnd after.line.run) where
   abbrev c : Commission
   c = commission_made words
 
@@ -332,8 +333,8 @@ module _ (laws : Laws) (words : BigWords) (some : 1 ≤ words.devices) (few : wo
     by_fault : (o : Option HubFault) → report.fault ≡ o → EndsSo ran.jobs c.turns r log o → IsLoadedWhole words out out' ending
     by_fault None none served = loaded none served
     by_fault (Some (NoMemory want)) is served = inl (whole.status_is ∙ ap (λ (o : Option HubFault). status_of o report.log) is)
-    by_fault (Some Flooded) is flooded = absurd (never_more _ flooded.count within.unflooded)
-    by_fault (Some LinkFailed) is last = absurd (within.early last)
+    by_fault (Some Flooded) is flooded = absurd (let z : true ≡ false = sym flooded.0 in cc)
+    by_fault (Some LinkFailed) is last = absurd (early last)
     by_fault (Some (GatewayRefused tries)) is never = absurd never
     by_fault (Some (WrongLine device tunnel)) is never = absurd never
 
@@ -345,9 +346,9 @@ module _ (laws : Laws) (words : BigWords) (some : 1 ≤ words.devices) (few : wo
   run_loaded (inr whole) = whole_loaded whole
 
 -- by the words
-pub made_loaded : (laws : Laws) (number from : List ℕ) (words : BigWords) (after : Left) (out out' : SinkNow) (ending : Status) → big_words (number ∷ from ∷ []) ≡ Some words → IsWithinBounds after.line.run
+pub made_loaded : (laws : Laws) (number from : List ℕ) (words : BigWords) (after : Left) (out out' : SinkNow) (ending : Status) → big_words (number ∷ from ∷ []) ≡ Some words → ¬ IsAtEnd after.line.run
     → IsRunTold (λ told. ends.Sums told (counts_of (made words))) (commission_made words) after out out' ending → IsLoadedWhole words out out' ending
-made_loaded laws number from words after out out' ending read within told = by_number (from_1_to 254 number) refl read where
+made_loaded laws number from words after out out' ending read early told = by_number (from_1_to 254 number) refl read where
   by_start : (n : ℕ) (o : Option ℕ) → option_map (λ (x : ℕ). let w : BigWords = record { devices = n; start = x } in w) o ≡ Some words → n ≡ words.devices
   by_start n None h = absurd (cc)
   by_start n (Some x) h = let same : Some (let w : BigWords = record { devices = n; start = x } in w) ≡ Some words = h in ap (λ (o : Option BigWords). devices_in o) same where
@@ -360,4 +361,4 @@ made_loaded laws number from words after out out' ending read within told = by_n
   by_number (Some n) is h =
       let range = from_range 254 (number_value number) n is in
       let same : n ≡ words.devices = by_start n (start_value from) h in
-      run_loaded laws words (subst (λ m. 1 ≤ m) same range.0) (subst (λ m. m ≤ 254) same range.1) after out out' ending within told
+      run_loaded laws words (subst (λ m. 1 ≤ m) same range.0) (subst (λ m. m ≤ 254) same range.1) after out out' ending early told

@@ -39,11 +39,11 @@ answers_with out out' ending (ends.Assigns given) replied = tt
 -- ---- of a run that nothing disturbs
 
 module _ (jobs : List Job) (turns : List GroupTurn) (r : RunNow) (report : Report) where
-  by_failure : (failed : Bool) → report.fault ≡ None → MayEndWith jobs r report (cond failed status.SomeFailed status.Done)
+  by_failure : (failed : Bool) → report.fault ≡ None → MayEndWith jobs turns r report (cond failed status.SomeFailed status.Done)
   by_failure true none = none
   by_failure false none = none
 
-  by_fault : (o : Option HubFault) → report.fault ≡ o → EndsSo jobs turns r (log_in report) o → MayEndWith jobs r report (status_of o report.log)
+  by_fault : (o : Option HubFault) → report.fault ≡ o → EndsSo jobs turns r (log_in report) o → MayEndWith jobs turns r report (status_of o report.log)
   by_fault None none h = by_failure (has_failure report.log) none
   by_fault (Some (NoMemory want)) is h = tt
   by_fault (Some Flooded) is h = h
@@ -51,7 +51,7 @@ module _ (jobs : List Job) (turns : List GroupTurn) (r : RunNow) (report : Repor
   by_fault (Some (GatewayRefused tries)) is h = absurd h
   by_fault (Some (WrongLine device tunnel)) is h = absurd h
 
-  pub may_end : (ending : Status) → EndsSo jobs turns r (log_in report) report.fault → AnswersWith ending report → MayEndWith jobs r report ending
-  may_end ending h (inl its) = subst (MayEndWith jobs r report) (sym its) (by_fault report.fault refl h)
-  may_end ending h (inr (inl want)) = subst (MayEndWith jobs r report) (sym want) tt
-  may_end ending h (inr (inr refused)) = subst (MayEndWith jobs r report) (sym refused) tt
+  pub may_end : (ending : Status) → EndsSo jobs turns r (log_in report) report.fault → AnswersWith ending report → MayEndWith jobs turns r report ending
+  may_end ending h (inl its) = subst (MayEndWith jobs turns r report) (sym its) (by_fault report.fault refl h)
+  may_end ending h (inr (inl want)) = subst (MayEndWith jobs turns r report) (sym want) tt
+  may_end ending h (inr (inr refused)) = subst (MayEndWith jobs turns r report) (sym refused) tt

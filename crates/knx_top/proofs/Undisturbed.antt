@@ -11,6 +11,7 @@ use Rattle.call_words.specs.declared.job_word.JobKind.TheVariants.{Load, Check}
 use Rattle.call_words.specs.declared.job_word.JobWord.{JobWord}
 use Rattle.call_words.specs.declared.status.Status.{Status}
 use Rattle.calm_law.specs.CalmChecks.{ChecksExactly, HaveOneImage, IsAnsweredRightly}
+use Rattle.calm_law.specs.CalmCounts.{ComeForWrites, some_reads}
 use Rattle.calm_law.specs.CalmEnds.{Told, IsAnsweredJob, EndWell}
 use Rattle.calm_law.specs.CalmJobs.{HavePower, IsPromptClient}
 use Rattle.calm_law.specs.CalmLine.{FitsResponse, HaveShortValues}
@@ -57,8 +58,9 @@ use Rattle.knx_top.specs.Jobs.{ArePlanned, IsPlanned, is_load, plan_of}
 use Rattle.table_compiler.proofs.Unique.{one_image}
 use Rattle.knx_top.proofs.Meanings.{planned_of}
 use Rattle.knx_top.specs.Ran.{Commission, IsRunOf, IsTold, Ran, log_in}
-use Rattle.knx_top.specs.Undisturbed.{IsUndisturbed, AllServed, EndsSo, NothingFails, EndsUndisturbed}
+use Rattle.knx_top.specs.Undisturbed.{IsUndisturbed, AllServed, EndsSo, FloodsSo, NothingFails, EndsUndisturbed}
 use Rattle.knx_top.proofs.Statuses.{AnswersWith, may_end}
+use Rattle.knx_top.proofs.Unflooded.{ChecksCost, LoadsCost, unflooded}
 use Rattle.knx_top.proofs.Unbroken.{no_three, none_elsewhere, none_wrong}
 
 -- ---- no device is without power
@@ -270,6 +272,10 @@ pub record Laws : Type 0 where
   pub told : (start : World) (events : List Event) → IsFresh start → IsLegal Commissions start events → IfSome (first_tunnel (record_of start events)) (λ tunnel. tunnel ≡ me start)
   pub checks : (jobs : List Job) (turns : List GroupTurn) (start : World) (events : List Event) (log : List LogEntry) → AllByRecursion IsServedJob jobs → HasDevices jobs start → HavePower start → IsPromptClient jobs turns start events log → AreCalm start events → HaveShortValues start
       → IsUntouched jobs start events log → StaysDone jobs start events log → RunsWhereDone jobs start events log → AllByRecursion IsAnsweredRightly jobs → HaveOneImage jobs → ChecksExactly jobs start log
+  pub unread : (jobs : List Job) (turns : List GroupTurn) (start : World) (events : List Event) (log : List LogEntry) → AllByRecursion IsServedJob jobs → HasDevices jobs start → HavePower start → IsPromptClient jobs turns start events log → AreCalm start events → HaveShortValues start
+      → some_reads turns ≡ false → ComeForWrites jobs turns (record_of start events)
+  pub load_costs : LoadsCost
+  pub check_costs : ChecksCost
 
 module _ (laws : Laws) (c : Commission) (r : RunNow) (report : Report) (words : List JobWord) (ran : Ran c r report words) where
   answered : AllByRecursion IsAnsweredRightly ran.jobs
@@ -329,7 +335,11 @@ module _ (laws : Laws) (c : Commission) (r : RunNow) (report : Report) (words : 
     ends : (o : Option HubFault) → report.fault ≡ o → FaultRight ran.jobs (log_in report) record_now o → EndsSo ran.jobs c.turns r (log_in report) o
     ends None e right = served e
     ends (Some (NoMemory want)) e right = tt
-    ends (Some Flooded) e right = right
+    ends (Some Flooded) e right = by_reads (some_reads c.turns) refl
+      where
+        by_reads : (b : Bool) → some_reads c.turns ≡ b → FloodsSo ran.jobs c.turns r (log_in report)
+        by_reads true some = (some, right)
+        by_reads false none = absurd (unflooded c r report words ran laws.load_costs laws.check_costs (laws.unread ran.jobs c.turns (start r) r.events (log_in report) each_served devices power by calm short none) right)
     ends (Some LinkFailed) e right = ran.told.last e
     ends (Some (GatewayRefused three)) e right = never_refused three (ran.told.tries three e) right
     ends (Some (WrongLine device tunnel)) e right = none_wrong ran.jobs record_now device tunnel on_its_line right

@@ -1,5 +1,5 @@
 -- What a run is begun with in the code, and the commission of the definitions that it stands for.
-use Rattle.std.specs.Prelude.{◌≡◌, ℕ, ◌<◌, ◌^◌, true, List, [], length, map, None, Result, Ok, Err}
+use Rattle.std.specs.Prelude.{◌≡◌, ℕ, ◌≤◌, true, List, [], length, map, None, Result, Ok, Err}
 use Rattle.std.specs.List.{AllByRecursion}
 use Rattle.bus_sim.specs.declared.clients.Clients.TheVariants.{One}
 use Rattle.bus_sim.specs.RunNow.{RunNow, script, start}
@@ -16,8 +16,8 @@ use Rattle.line_model.specs.Headline.{IsGoodJob}
 use Rattle.line_model.specs.StartOf.{BusOf, is_on_bus}
 use Rattle.knx_top.specs.Jobs.{AreJobs, ArePlanned, seen_job}
 use Rattle.knx_top.specs.OnLine.{AreCompiled, on_bus}
-use Rattle.knx_top.specs.Options.{workers_of}
-use Rattle.knx_top.specs.Turns.{turns_of}
+use Rattle.knx_top.specs.Options.{most_jobs, workers_of}
+use Rattle.knx_top.specs.Turns.{most_turns, turns_of}
 use Rattle.knx_top.specs.Ran.{Commission}
 use Rattle.knx_top.specs.declared.commands.sim.judge.Order.{Order}
 
@@ -37,11 +37,11 @@ pub record BeginsLine (new old : Installation) (lines : List ScriptLine) (r : Ru
 -- the jobs, the group telegrams and the devices of a run, by the jobs that words name and the lines of the script
 pub record IsPrepared (new old : Installation) (lines : List ScriptLine) (named : List JobWord) (order : Order) : Type 0 where
   pub jobs : AreJobs named new order.jobs
-  pub few : length order.plans < 2 ^ 32
+  pub few : length order.plans ≤ most_jobs
   pub plans : ArePlanned new (map seen_job order.plans) order.jobs
   pub good : AllByRecursion IsGoodJob (map seen_job order.plans)
   pub turns : order.turns ≡ turns_of lines
-  pub few_turns : length order.turns < 2 ^ 32
+  pub few_turns : length order.turns ≤ most_turns
   pub sendable : AllByRecursion IsTurnInRange order.turns
   pub devices : AreCompiled new order.devices (on_bus new old)
 

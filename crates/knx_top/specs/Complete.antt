@@ -14,8 +14,10 @@ use Rattle.call_words.specs.declared.status.Status.TheVariants as status
 use Rattle.knx_model.specs.declared.counts.Counts.{Counts}
 use Rattle.knx_model.specs.Outside.{FileContent, FilesNow, SinkNow, Untold, Absent, Holds, Rose, Wrote}
 use Rattle.line_model.specs.Dialled.{Address, DialerNow}
+use Rattle.line_model.specs.declared.group.GroupTurn.{GroupTurn}
 use Rattle.line_model.specs.declared.log.Report.{Report}
 use Rattle.bus_sim.specs.Loaded.{BusNow}
+use Rattle.calm_law.specs.CalmCounts.{some_reads}
 use Rattle.line_model.specs.Faults.{datagrams_taken, flood}
 use Rattle.line_model.specs.Lines.{script_of}
 use Rattle.line_model.specs.Record.{record_of}
@@ -108,9 +110,9 @@ pub record NothingDisturbs (c : Commission) : Type 0 where
   pub says : line.IsUndisturbed (script_of c.script)
   pub devices : (jobs : List JobWord) → AreJobs c.options.jobs c.project jobs → AllByRecursion (λ (job : JobWord). is_on_bus c.project c.before job.device.raw ≡ true) jobs
 
--- fewer datagrams came than those at which it is given up, and it was over before the last time of 64 bits
-pub record IsWithinBounds (r : RunNow) : Type 0 where
-  pub unflooded : datagrams_taken (record_of (start r) r.events) < flood
+-- where a group telegram asks for values, fewer datagrams came than those at which it is given up; and it was over before the last time of 64 bits
+pub record IsWithinBounds (turns : List GroupTurn) (r : RunNow) : Type 0 where
+  pub unflooded : some_reads turns ≡ true → datagrams_taken (record_of (start r) r.events) < flood
   pub early : ¬ IsAtEnd r
 
 -- the whole report was written, all was served, and the status is 0, or 1 where a check was refused

@@ -2,12 +2,12 @@
 -- at every moment, whatever is lost, repeated or cut, each device has its starting content, or is stopped, or runs what the new project says; each
 -- group telegram acts on exactly the objects that the running configuration links; `done` is told only where the new project's runs; no device has
 -- two downloaders at once, and no tunnelling request acts twice.
-use Rattle.std.specs.Prelude.{ℕ, IfSome, List, None, Option, Some, ◌≡◌, length, min, reverse, ◌^◌, ◌-◌}
+use Rattle.std.specs.Prelude.{ℕ, IfSome, List, None, Option, Some, ◌≡◌, ◌≤◌, length, min, reverse, ◌^◌, ◌-◌}
 use Rattle.line_model.specs.ActedOnce.{ActedOnce}
 use Rattle.line_model.specs.Telegrams.{ActsByProject, TelegramsActRight}
 use Rattle.line_model.specs.Log.{AllOver, Job, TakenInOrder, TurnUnfinished}
 use Rattle.knx_top.specs.Jobs.{AreJobs, ArePlanned}
-use Rattle.knx_top.specs.Turns.{turns_of}
+use Rattle.knx_top.specs.Turns.{most_turns, turns_of}
 use Rattle.bus_sim.specs.Loaded.{BusNow}
 use Rattle.line_model.specs.StartOf.{BusOf}
 use Rattle.line_model.specs.Tunnel.{Commissions}
@@ -35,7 +35,7 @@ use Rattle.line_model.specs.declared.log.Report.{Report}
 use Rattle.knx_model.specs.Outside.{Rose}
 use Rattle.bus_sim.specs.RunNow.{RunNow, start}
 use Rattle.knx_model.specs.declared.script.ScriptLine.{ScriptLine}
-use Rattle.knx_top.specs.Options.{SimOptions, workers_of}
+use Rattle.knx_top.specs.Options.{SimOptions, most_jobs, workers_of}
 use Rattle.line_model.specs.Record.{record_of, placed}
 use Rattle.line_model.specs.Lines.{script_of}
 use Rattle.line_model.specs.ClientView.{indications}
@@ -106,12 +106,15 @@ pub record IsTold (c : Commission) (jobs : List Job) (r : RunNow) (report : Repo
 
 -- ---- all of it
 
--- a run that has begun, whether it ends or not, with its jobs, as their words and with their plans, and its report
+-- a run that has begun, whether it ends or not, with its jobs, as their words and with their plans, and its report; there are at most 1,024 jobs, and at most
+-- 65,536 group telegrams
 pub record Ran (c : Commission) (r : RunNow) (report : Report) (words : List JobWord) : Type 0 where
   pub run : IsRunOf c r
   pub words_are : AreJobs c.options.jobs c.project words
   pub jobs : List Job
   pub planned : ArePlanned c.project jobs words
+  pub few_jobs : length jobs ≤ most_jobs
+  pub few_turns : length c.turns ≤ most_turns
   pub promises : KeepsPromises c jobs r (log_in report)
   pub told : IsTold c jobs r report
 

@@ -1,6 +1,6 @@
 -- The group telegrams of a script, which are numbered from 1: first those of the `group` lines, which are sent while jobs run, and then those of the `then group`
--- lines, which are sent after all jobs.
-use Rattle.std.specs.Prelude.{true, false, List, ◌++◌, Option, Some, None}
+-- lines, which are sent after all jobs. A script has at most 65,536 lines.
+use Rattle.std.specs.Prelude.{ℕ, true, false, List, ◌++◌, Option, Some, None}
 use Rattle.std.specs.List.{filter_map}
 use Rattle.knx_model.specs.declared.script.ScriptLine.{ScriptLine}
 use Rattle.knx_model.specs.declared.script.ScriptWhat.{ScriptWhat}
@@ -16,6 +16,9 @@ while_jobs _ = None
 abbrev pub after_jobs : ScriptWhat → Option GroupTurn
 after_jobs (Group true group service) = Some (record { after = true; group = group; service = service })
 after_jobs _ = None
+
+abbrev pub most_turns : ℕ
+most_turns = 65536
 
 abbrev pub turns_of : List ScriptLine → List GroupTurn
 turns_of lines = filter_map (λ (l : ScriptLine). while_jobs l.what) lines ++ filter_map (λ (l : ScriptLine). after_jobs l.what) lines

@@ -1,7 +1,7 @@
 -- A run that nothing disturbs: its script has no lines but those of group telegrams and of standard devices, and the device of each job is on the line, in
 -- one of the projects. In such a run nothing fails: time passes only where nothing is awaited, no job fails, and no group telegram is lost. A job is
 -- refused only where its device, with what it kept when the job was taken, doesn't give each answer that is wanted. It isn't broken off but for want of memory,
--- by a flood of datagrams, or at the last time of 64 bits. Else each load was told done, each check done exactly where an earlier job loads its device or its
+-- by a flood of datagrams where a group telegram asks for values, or at the last time of 64 bits. Else each load was told done, each check done exactly where an earlier job loads its device or its
 -- device began with the new image, and else refused, and each group telegram sent.
 use Rattle.std.specs.Prelude.{◌≡◌, ◌≢◌, ◌⊎◌, ℕ, true, false, List, Option, Some, None}
 use Rattle.std.specs.List.{AllByRecursion}
@@ -24,6 +24,7 @@ use Rattle.line_model.specs.Undisturbed as line
 use Rattle.line_model.specs.Undisturbed.{IsPrompt, RefusesRightly}
 use Rattle.line_model.specs.World.{World}
 use Rattle.calm_law.specs.CalmChecks.{RunsByThen}
+use Rattle.calm_law.specs.CalmCounts.{some_reads}
 use Rattle.calm_law.specs.CalmEnds.{Told, IsToldDone, IsToldRefused}
 use Rattle.knx_top.specs.Headline.{OfItsJobs}
 use Rattle.knx_top.specs.Ran.{Commission, log_in}
@@ -41,30 +42,34 @@ pub record AllServed (jobs : List Job) (turns : List GroupTurn) (start : World) 
   pub checks : (k : ℕ) (job : Job) → job_of jobs k ≡ Some job → job.loads ≡ false → (IsToldDone k log × RunsByThen jobs start k job) ⊎ (IsToldRefused k log × ¬ RunsByThen jobs start k job)
   pub telegrams : (k : ℕ) → turn_of turns k ≢ None → Told (λ what. what ≡ Sent k) log
 
--- how it ends: all is served; or there was no memory, or so many datagrams came, while a job had no end, that it is given up; or the link failed at the last time
+-- so many datagrams came, while a job had no end, that it is given up; and some group telegram asks for a value
+abbrev pub FloodsSo : List Job → List GroupTurn → RunNow → List LogEntry → Type 0
+FloodsSo jobs turns r log = (some_reads turns ≡ true) × IsFlooded jobs log (record_of (start r) r.events)
+
+-- how it ends: all is served; or there was no memory, or it was flooded so; or the link failed at the last time
 abbrev pub EndsSo : List Job → List GroupTurn → RunNow → List LogEntry → Option HubFault → Type 0
 EndsSo jobs turns r log None = AllServed jobs turns (start r) log
 EndsSo jobs turns r log (Some (NoMemory want)) = Unit {0}
-EndsSo jobs turns r log (Some Flooded) = IsFlooded jobs log (record_of (start r) r.events)
+EndsSo jobs turns r log (Some Flooded) = FloodsSo jobs turns r log
 EndsSo jobs turns r log (Some LinkFailed) = IsAtEnd r
 EndsSo jobs turns r log (Some (GatewayRefused tries)) = ⊥
 EndsSo jobs turns r log (Some (WrongLine device tunnel)) = ⊥
 
--- the status of its call: 0 or 1, where it wasn't broken off; else the text couldn't be written, there was no memory, it was given up so, or the link failed so
-abbrev pub MayEndWith : List Job → RunNow → Report → Status → Type 0
-MayEndWith jobs r report status.Done = report.fault ≡ None
-MayEndWith jobs r report status.SomeFailed = report.fault ≡ None
-MayEndWith jobs r report status.Write = Unit {0}
-MayEndWith jobs r report (status.NoMemory want) = Unit {0}
-MayEndWith jobs r report status.Flooded = IsFlooded jobs (log_in report) (record_of (start r) r.events)
-MayEndWith jobs r report status.Link = IsAtEnd r
-MayEndWith jobs r report _ = ⊥
+-- the status of its call: 0 or 1, where it wasn't broken off; else the text couldn't be written, there was no memory, it was flooded so, or the link failed so
+abbrev pub MayEndWith : List Job → List GroupTurn → RunNow → Report → Status → Type 0
+MayEndWith jobs turns r report status.Done = report.fault ≡ None
+MayEndWith jobs turns r report status.SomeFailed = report.fault ≡ None
+MayEndWith jobs turns r report status.Write = Unit {0}
+MayEndWith jobs turns r report (status.NoMemory want) = Unit {0}
+MayEndWith jobs turns r report status.Flooded = FloodsSo jobs turns r (log_in report)
+MayEndWith jobs turns r report status.Link = IsAtEnd r
+MayEndWith jobs turns r report _ = ⊥
 
 pub record NothingFails (ending : Status) (jobs : List Job) (turns : List GroupTurn) (r : RunNow) (report : Report) : Type 0 where
   pub prompt : IsPrompt jobs (start r) (log_in report) r.events
   pub refuses : RefusesRightly jobs (start r) r.events (log_in report)
   pub ends : EndsSo jobs turns r (log_in report) report.fault
-  pub exits : MayEndWith jobs r report ending
+  pub exits : MayEndWith jobs turns r report ending
 
 -- of a call with this status
 abbrev pub EndsUndisturbed : Status → Commission → RunNow → Report → Type 0

@@ -31,8 +31,8 @@ use address_sim::AddressBus;
 use bus_sim::SimBus;
 use call_words::Status;
 use calm_law::{
-    each_check_is_exact, nothing_fails_on_a_calm_line, the_gateway_tells_its_own_address,
-    undisturbing_scripts_are_calm,
+    each_check_is_exact, nothing_fails_on_a_calm_line, plans_cost_by_their_lists,
+    the_gateway_tells_its_own_address, undisturbing_scripts_are_calm,
 };
 use knx_model::{Files, Sink};
 use line_model::{Dialer, Gate, Report, Watcher};
@@ -173,7 +173,7 @@ pub fn knx<
     // it loses no time
     ensures hastens { HasRunOf HasLostNoTime (map string_bytes words.now) (F.now files.old) sim.old (record { line = sim.new; report = last.new }) }
     // where no line of the script disturbs, and the jobs' devices are on the line, nothing fails, and the run isn't broken off but for want of memory, by a flood
-    // of datagrams, or at the last time of 64 bits: each load is told done, each check done exactly where an earlier job loads its device or its device began with
+    // of datagrams where a group telegram asks for values, or at the last time of 64 bits: each load is told done, each check done exactly where an earlier job loads its device or its device began with
     // the new image, and each group telegram sent; and then the status is 0 or 1, unless there was no memory for the text or it couldn't be written
     ensures undisturbed { HasRunOf (EndsUndisturbed result) (map string_bytes words.now) (F.now files.old) sim.old (record { line = sim.new; report = last.new }) }
     // it asks the gateway to end the open channel only when all jobs are over: then once, after the listening
@@ -205,6 +205,7 @@ pub fn knx<
     nothing_fails_on_a_calm_line();
     each_check_is_exact();
     the_gateway_tells_its_own_address();
+    plans_cost_by_their_lists();
     *last = None;
     answer(
         rt, alloc, words, files, out, sim, units, dial, gate, watch, last,

@@ -2,6 +2,7 @@
 
 ghost use Rattle.std.specs.Prelude.{◌≡◌, ℕ, ◌∷◌, [], List, Some, Option};
 ghost use Rattle.frame_text.specs.FrameText.{IsFrameText, hex_word};
+ghost use Rattle.bus_sim.specs.Ended.{IsAtEnd};
 ghost use Rattle.bus_sim.specs.Loaded.{BusNow};
 ghost use Rattle.call_words.specs.declared.status.Status.{Status};
 ghost use Rattle.knx_model.specs.Counts.{counts_of};
@@ -22,8 +23,8 @@ ghost use Rattle.knx_top.specs.commands.Sim.{RunsScript, SimWords, commission_to
 ghost use Rattle.knx_top.specs.commands.Tables.{IsTablesText};
 
 use calm_law::{
-    each_check_is_exact, nothing_fails_on_a_calm_line, the_gateway_tells_its_own_address,
-    undisturbing_scripts_are_calm,
+    each_check_is_exact, nothing_fails_on_a_calm_line, plans_cost_by_their_lists,
+    the_gateway_tells_its_own_address, undisturbing_scripts_are_calm,
 };
 
 /// Where the files of `check` or `tables` are told, no test fails and no count rose, what the clauses of `knx` say comes to this: the
@@ -45,27 +46,30 @@ pub fn valid_input_is_told()
         → RunsGateway words files files' before after line line' (Replies out out' ending) → IsGatewayTold (gateway_told words (gateway_texts_told files.file words)) before after line' out out' ending }
 {}
 
-/// Where besides no line of the script of `sim` disturbs, the device of each job is on the line, and the run is neither flooded nor as long as 64 bits can
-/// tell, all is served: each load is told done, each check done or refused as its device is, and each group telegram sent; the whole report is written, and the
+/// Where besides no line of the script of `sim` disturbs, the device of each job is on the line, and the run isn't as long as 64 bits can tell nor, where a
+/// group telegram asks for values, flooded, all is served: each load is told done, each check done or refused as its device is, and each group telegram sent; the whole report is written, and the
 /// status is 0 or 1; or there was no memory.
 pub fn valid_input_is_served()
-    ensures { (words : SimWords) (files files' : FilesNow) (before : BusNow) (after : Left) (out out' : SinkNow) (ending : Status) → IsValidRun files.file words → NothingDisturbs (commission_told words (sim_texts_told files.file words)) → NoneRose files files' out out' → IsWithinBounds after.line.run
+    ensures { (words : SimWords) (files files' : FilesNow) (before : BusNow) (after : Left) (out out' : SinkNow) (ending : Status) → IsValidRun files.file words → NothingDisturbs (commission_told words (sim_texts_told files.file words)) → NoneRose files files' out out'
+        → IsWithinBounds (commission_told words (sim_texts_told files.file words)).turns after.line.run
         → RunsScript words files files' before after (Replies out out' ending) → IsRunServed (commission_told words (sim_texts_told files.file words)) after out out' ending }
 {
     undisturbing_scripts_are_calm();
     nothing_fails_on_a_calm_line();
     each_check_is_exact();
     the_gateway_tells_its_own_address();
+    plans_cost_by_their_lists();
 }
 
-/// A run of `big` is served so, as nothing disturbs it: where it is neither flooded nor as long as 64 bits can tell, each device that is made is loaded and runs
+/// A run of `big` is served so, as nothing disturbs it: where it isn't as long as 64 bits can tell, each device that is made is loaded and runs
 /// what the project says of it at the end, the whole line tells so, and the status is 0; or there was no memory.
 pub fn each_made_line_is_loaded()
-    ensures { (devices start : List ℕ) (words : BigWords) (before : BusNow) (after : Left) (out out' : SinkNow) (ending : Status) → big_words (devices ∷ start ∷ []) ≡ Some words → ¬ Rose out.faults out'.faults → IsWithinBounds after.line.run
+    ensures { (devices start : List ℕ) (words : BigWords) (before : BusNow) (after : Left) (out out' : SinkNow) (ending : Status) → big_words (devices ∷ start ∷ []) ≡ Some words → ¬ Rose out.faults out'.faults → ¬ IsAtEnd after.line.run
         → RunsMade words before after (Replies out out' ending) → IsLoadedWhole words out out' ending }
 {
     undisturbing_scripts_are_calm();
     nothing_fails_on_a_calm_line();
     each_check_is_exact();
     the_gateway_tells_its_own_address();
+    plans_cost_by_their_lists();
 }

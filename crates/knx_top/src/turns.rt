@@ -1,10 +1,10 @@
 //! The group telegrams of a script.
 
-ghost use Rattle.std.specs.Prelude.{◌≡◌, ◌<◌, ◌++◌, IfOk, OnOk, length};
+ghost use Rattle.std.specs.Prelude.{◌≡◌, ◌≤◌, ◌++◌, IfOk, OnOk, length};
 ghost use Rattle.std.specs.List.{AllByRecursion};
 ghost use Rattle.std.specs.Option.{option_to_list};
 ghost use Rattle.hub_work.specs.Requests.{IsTurnInRange};
-ghost use Rattle.knx_top.specs.Turns.{after_jobs, turns_of, while_jobs};
+ghost use Rattle.knx_top.specs.Turns.{after_jobs, most_turns, turns_of, while_jobs};
 
 use knx_model::{List, NoMemory, ScriptLine, ScriptWhat};
 use line_model::GroupTurn;
@@ -74,7 +74,7 @@ fn turns_in(alloc: Global, lines: &[ScriptLine]) -> Result<List<GroupTurn>, NoMe
 /// The group telegrams of a script, in the order in which they are sent. It has at most 65,536 lines, and each value that they write can be sent.
 pub fn turns_of(alloc: Global, script: &Script) -> Result<List<GroupTurn>, NoMemory>
     ensures are { IfOk result (λ turns. turns ≡ turns_of script.now.lines) }
-    ensures few { IfOk result (λ turns. length turns < 4294967296) }
+    ensures few { IfOk result (λ turns. length turns ≤ most_turns) }
     ensures sendable { IfOk result (λ turns. AllByRecursion IsTurnInRange turns) }
 {
     let turns = turns_in(alloc, script.lines.as_slice())?;

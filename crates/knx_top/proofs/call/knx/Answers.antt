@@ -88,6 +88,9 @@ returns-clause-undisturbed g c =
       reached = c.nothing_fails_on_a_calm_line.ensures.reached;
       told = c.the_gateway_tells_its_own_address.ensures;
       checks = c.each_check_is_exact.ensures;
+      unread = c.nothing_fails_on_a_calm_line.ensures.unread;
+      load_costs = c.plans_cost_by_their_lists.ensures.loads;
+      check_costs = c.plans_cost_by_their_lists.ensures.checks;
     } in
     ran_told_of (EndsUndisturbed c.answer.result) (AnswersWith c.answer.result) (λ commission r report jobs ran answered. ends_undisturbed laws commission r report jobs ran c.answer.result answered) _ _ _ _
     (answers_with (g.K.Sink.now c.args.out.now) (g.K.Sink.now c.answer.new.out) c.answer.result) c.answer.ensures.does

@@ -13,5 +13,8 @@ returns c =
       reached = c.nothing_fails_on_a_calm_line.ensures.reached;
       told = c.the_gateway_tells_its_own_address.ensures;
       checks = c.each_check_is_exact.ensures;
+      unread = c.nothing_fails_on_a_calm_line.ensures.unread;
+      load_costs = c.plans_cost_by_their_lists.ensures.loads;
+      check_costs = c.plans_cost_by_their_lists.ensures.checks;
     } in
-    λ devices from words before after out out' ending read still within t. made_loaded laws devices from words after out out' ending read within (made_told words before after out out' ending still t)
+    λ devices from words before after out out' ending read still early t. made_loaded laws devices from words after out out' ending read early (made_told words before after out out' ending still t)

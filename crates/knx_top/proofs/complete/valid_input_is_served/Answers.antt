@@ -15,6 +15,9 @@ returns c =
       reached = c.nothing_fails_on_a_calm_line.ensures.reached;
       told = c.the_gateway_tells_its_own_address.ensures;
       checks = c.each_check_is_exact.ensures;
+      unread = c.nothing_fails_on_a_calm_line.ensures.unread;
+      load_costs = c.plans_cost_by_their_lists.ensures.loads;
+      check_costs = c.plans_cost_by_their_lists.ensures.checks;
     } in
     λ words files files' before after out out' ending valid quiet still within t.
     run_served laws (commission_told words (sim_texts_told files.file words)) after out out' ending quiet within (script_told words files files' before after out out' ending valid still t)

@@ -1,3 +1,4 @@
+use Rattle.std.proofs.Common.{arith}
 use Rattle.knx_top.proofs.Present.{devices_there}
 use Rattle.knx_top.specs.commands.Sim.{sim_words_of}
 use Rattle.knx_top.proofs.commands.Sims.{decided_run, decided_stop, of_order}
@@ -13,13 +14,13 @@ pub run-requires-clause-sound : goal.run-requires-clause-sound
 run-requires-clause-sound g c = λ κs within. of_order _ _ _ c.in-Ok.ensures.ok (λ commission is. is.sound)
 
 pub run-requires-clause-few : goal.run-requires-clause-few
-run-requires-clause-few g c = λ κs within. of_order _ _ _ c.in-Ok.ensures.ok (λ commission is. is.prepared.few)
+run-requires-clause-few g c = λ κs within. of_order _ _ _ c.in-Ok.ensures.ok (λ commission is. omega (arith, is.prepared.few))
 
 pub run-requires-clause-good : goal.run-requires-clause-good
 run-requires-clause-good g c = λ κs within. of_order _ _ _ c.in-Ok.ensures.ok (λ commission is. is.prepared.good)
 
 pub run-requires-clause-few_turns : goal.run-requires-clause-few_turns
-run-requires-clause-few_turns g c = λ κs within. of_order _ _ _ c.in-Ok.ensures.ok (λ commission is. is.prepared.few_turns)
+run-requires-clause-few_turns g c = λ κs within. of_order _ _ _ c.in-Ok.ensures.ok (λ commission is. omega (arith, is.prepared.few_turns))
 
 pub run-requires-clause-sendable : goal.run-requires-clause-sendable
 run-requires-clause-sendable g c = λ κs within. of_order _ _ _ c.in-Ok.ensures.ok (λ commission is. is.prepared.sendable)
