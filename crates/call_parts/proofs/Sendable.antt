@@ -37,20 +37,50 @@ few_lines n (l ∷ lines) few spelled ascend =
     below : (a b : ℕ) → nat_lt a b ≡ true → a < b
     below a b is = grind (arith, nat_tests)
 
-no_longer : (says : ScriptWhat → Option GroupTurn) (lines : List ScriptLine) → length (filter_map (λ (l : ScriptLine). says l.what) lines) ≤ length lines
-no_longer says [] = omega arith
-no_longer says (l ∷ lines) = one (says l.what) (filter_map (λ (s : ScriptLine). says s.what) lines) lines (no_longer says lines)
-  where
-    one : (turn : Option GroupTurn) (turns : List GroupTurn) (rest : List ScriptLine) → length turns ≤ length rest → length (cons_option turn turns) ≤ length (l ∷ rest)
-    one None turns rest few = omega (arith, few)
-    one (Some turn) turns rest few = omega (arith, few)
+-- a line has one telegram at most
+taken : Option GroupTurn → ℕ
+taken None = 0
+taken (Some turn) = 1
+
+one_more : (turn : Option GroupTurn) (turns : List GroupTurn) → length (cons_option turn turns) ≡ taken turn + length turns
+unfolding taken
+one_more None turns = omega arith
+one_more (Some turn) turns = omega arith
+
+one_of : (what : ScriptWhat) → taken (while_jobs what) + taken (after_jobs what) ≤ 1
+unfolding taken
+one_of (Group false group service) = omega arith
+one_of (Group true group service) = omega arith
+one_of (LoseUp n) = omega arith
+one_of (LoseDown n) = omega arith
+one_of (RepeatUp n) = omega arith
+one_of (RepeatDown n) = omega arith
+one_of (LoseTo device n) = omega arith
+one_of (LoseFrom device n) = omega arith
+one_of (RepeatTo device n) = omega arith
+one_of (Cut device n k) = omega arith
+one_of (Worn device n) = omega arith
+one_of (CloseAfter device n) = omega arith
+one_of (Refuse n status) = omega arith
+one_of (DropChannel n) = omega arith
+one_of (Off device) = omega arith
+one_of (Standard device) = omega arith
+
+no_longer : (lines : List ScriptLine) → length (filter_map (λ (l : ScriptLine). while_jobs l.what) lines) + length (filter_map (λ (l : ScriptLine). after_jobs l.what) lines) ≤ length lines
+no_longer [] = omega arith
+no_longer (l ∷ lines) = omega (
+  arith,
+  one_more (while_jobs l.what) (filter_map (λ (s : ScriptLine). while_jobs s.what) lines),
+  one_more (after_jobs l.what) (filter_map (λ (s : ScriptLine). after_jobs s.what) lines),
+  one_of l.what,
+  no_longer lines,
+)
 
 pub few_turns : (lines : List ScriptLine) → are_script_lines lines ≡ true → script_lines_ascend lines ≡ true → length (turns_of lines) ≤ most_turns
 few_turns lines spelled ascend = omega (
   arith,
   few_lines 0 lines (omega arith) spelled ascend,
-  no_longer while_jobs lines,
-  no_longer after_jobs lines,
+  no_longer lines,
   length-append (filter_map (λ (l : ScriptLine). while_jobs l.what) lines) (filter_map (λ (l : ScriptLine). after_jobs l.what) lines),
 )
 
