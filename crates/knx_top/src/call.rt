@@ -62,7 +62,7 @@ fn run<R: Threads + Wait + Sync, F: Files, D: Dialer, G: Gate + Sync, W: Watcher
     ensures watched { (touches (Some (command_of command.entry))).run ≡ true → TellsWatcher (is_quiet (Some (command_of command.entry))) (report_in result) (watch_in W.watch watch.old) (watch_in W.watch watch.new) }
 {
     match command {
-        Command::Check(names) => check::call(alloc, names, files),
+        Command::Check(names) => check::call(rt, alloc, names, files),
         Command::Tables(names) => tables::call(rt, alloc, names, files),
         Command::Sim(names) => sim::call(rt, alloc, &names, files, sim, gate, watch),
         Command::Decode(word) => decode::call(alloc, word),

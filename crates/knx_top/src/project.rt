@@ -20,10 +20,11 @@ use catalogue::read_catalogue;
 use knx_model::{
     CatRefused, Catalogue, FileFault, Files, NoMemory as OutOfMemory, Octets, Refused, Why,
 };
-use project_check::{Checked, check};
-use project_text::{Project, read_project};
+use project_check::{Checked, check_in_threads};
+use project_text::{Project, read_project_in_threads};
 use script_text::{Script, read_script};
 use std::alloc::Global;
+use std::thread::Threads;
 
 /// The names in `P [catalogue=F]`.
 #[derive(Clone, Copy)]
@@ -172,17 +173,23 @@ pub fn refusal(place: InputFile, refused: Refused) -> Stop
 }
 
 /// The project that a text reads as.
-pub fn project_in(alloc: Global, place: InputFile, octets: &[u8]) -> Result<Project<'_>, Stop>
+pub fn project_in<'a, R: Threads + Sync>(
+    rt: &R,
+    alloc: Global,
+    place: InputFile,
+    octets: &'a [u8],
+) -> Result<Project<'a>, Stop>
     ensures { Gives (λ p. p.statements) result (unless_refused place (reading octets.now)) }
 {
-    match read_project(alloc, octets) {
+    match read_project_in_threads(rt, alloc, octets) {
         Ok(project) => Ok(project),
         Err(refused) => Err(refusal(place, refused)),
     }
 }
 
 /// The project, where it breaks no rule.
-pub fn sound_in<'b, 'a>(
+pub fn sound_in<'b, 'a, R: Threads + Sync>(
+    rt: &R,
     alloc: Global,
     place: InputFile,
     project: &'b Project<'a>,
@@ -190,7 +197,7 @@ pub fn sound_in<'b, 'a>(
 ) -> Result<Checked<'b, 'a>, Stop>
     ensures { Gives (λ c. c) result (sound place (record { statements = project.now.statements; catalogue = catalogue.now })) }
 {
-    match check(alloc, project, catalogue) {
+    match check_in_threads(rt, alloc, project, catalogue) {
         Ok(checked) => Ok(checked),
         Err(refused) => Err(refusal(place, refused)),
     }
@@ -214,7 +221,8 @@ pub struct ReadProject<'a> {
 }
 
 /// The catalogue and the project of `check`, `tables` and `download` are read.
-pub fn read_in<'a>(
+pub fn read_in<'a, R: Threads + Sync>(
+    rt: &R,
     alloc: Global,
     names: ProjectNames<'_>,
     texts: &'a ProjectTexts,
@@ -224,6 +232,6 @@ pub fn read_in<'a>(
     read_of(alloc, names.catalogue, &texts.catalogue)?;
     let project = read_of(alloc, Some(names.project), &texts.project)?;
     let models = models_in(alloc, &texts.catalogue)?;
-    let project = project_in(alloc, InputFile::New, project)?;
+    let project = project_in(rt, alloc, InputFile::New, project)?;
     Ok(ReadProject { project, models })
 }

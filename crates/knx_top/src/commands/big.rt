@@ -93,7 +93,7 @@ fn judge<R: Threads + Sync>(
     let names = GroupNames::new(alloc)?;
     let project = project_from(alloc, &names, devices, start)?;
     let models = Catalogue::empty(alloc);
-    let new = sound_in(alloc, InputFile::New, &project, &models)?;
+    let new = sound_in(rt, alloc, InputFile::New, &project, &models)?;
     let order = judge_behind(rt, alloc, &SimOptions::none(), &models, &new, &[], &[])?;
     Ok((order, new.counts()))
 }

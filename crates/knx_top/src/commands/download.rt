@@ -122,8 +122,8 @@ fn judge<R: Threads + Sync>(
     ensures ok { IfOk result (λ ready. ReadyFor (judged_download (download_words_of names.now) texts.now) ready) }
     ensures err { IfErr result (λ why. why ≢ OutOfMemory tt → judged_download (download_words_of names.now) texts.now ≡ Err why) }
 {
-    let read = read_in(alloc, names.project(), texts)?;
-    let checked = sound_in(alloc, InputFile::New, &read.project, &read.models)?;
+    let read = read_in(rt, alloc, names.project(), texts)?;
+    let checked = sound_in(rt, alloc, InputFile::New, &read.project, &read.models)?;
     let ready = judge_jobs(rt, alloc, names, &checked)?;
     Ok(ready)
 }

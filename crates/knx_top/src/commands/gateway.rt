@@ -131,8 +131,8 @@ fn judge<R: Threads + Sync>(
     let old = read_of(alloc, Some(names.old), &texts.old)?;
     let script = read_of(alloc, Some(names.script), &texts.script)?;
     let models = models_in(alloc, &texts.catalogue)?;
-    let old = project_in(alloc, InputFile::Old, old)?;
-    let old = sound_in(alloc, InputFile::Old, &old, &models)?;
+    let old = project_in(rt, alloc, InputFile::Old, old)?;
+    let old = sound_in(rt, alloc, InputFile::Old, &old, &models)?;
     let script = script_in(alloc, script)?;
     let ready = judge_script(rt, alloc, names, &old, &script)?;
     Ok(ready)

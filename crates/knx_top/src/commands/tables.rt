@@ -36,8 +36,8 @@ fn told<R: Threads + Sync>(
 ) -> Result<Octets, Stop>
     ensures { TellsOf IsTablesText (judged_project (project_words_of names.entry) texts.now) (end_told result) }
 {
-    let read = read_in(alloc, names, texts)?;
-    let checked = sound_in(alloc, InputFile::New, &read.project, &read.models)?;
+    let read = read_in(rt, alloc, names, texts)?;
+    let checked = sound_in(rt, alloc, InputFile::New, &read.project, &read.models)?;
     let text = tables_text(rt, alloc, &checked)?;
     Ok(text)
 }

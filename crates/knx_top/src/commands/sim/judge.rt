@@ -122,8 +122,8 @@ pub fn judge_behind<R: Threads + Sync>(
     ensures ok { IfOk result (λ order. OrderFor (with_project (options_of options.now) models.now old.now script.now new.now) order) }
     ensures err { IfErr result (λ why. why ≢ OutOfMemory tt → with_project (options_of options.now) models.now old.now script.now new.now ≡ Err why) }
 {
-    let old = project_in(alloc, InputFile::Old, old)?;
-    let old = sound_in(alloc, InputFile::Old, &old, models)?;
+    let old = project_in(rt, alloc, InputFile::Old, old)?;
+    let old = sound_in(rt, alloc, InputFile::Old, &old, models)?;
     let script = script_in(alloc, script)?;
     let order = judge_script(rt, alloc, options, new, &old, &script)?;
     Ok(order)
@@ -144,8 +144,8 @@ pub fn judge<R: Threads + Sync>(
     let old = read_of(alloc, Some(names.old), &texts.old)?;
     let script = read_of(alloc, Some(names.script), &texts.script)?;
     let models = models_in(alloc, &texts.catalogue)?;
-    let new = project_in(alloc, InputFile::New, new)?;
-    let new = sound_in(alloc, InputFile::New, &new, &models)?;
+    let new = project_in(rt, alloc, InputFile::New, new)?;
+    let new = sound_in(rt, alloc, InputFile::New, &new, &models)?;
     let order = judge_behind(rt, alloc, &names.options, &models, &new, old, script)?;
     Ok(order)
 }
