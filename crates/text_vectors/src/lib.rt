@@ -6,4 +6,6 @@ mod generated;
 #[cfg(test)]
 mod line_reports;
 #[cfg(test)]
+mod parts;
+#[cfg(test)]
 mod projects;
