@@ -17,9 +17,9 @@ once : (what : Item) (wait until : ℕ) (lasting : List ℕ) (old : List Entry) 
     → Polls what wait until (Recorded (clock_by lasting) old) (Recorded (clock_by lasting) (entry what until ∷ old))
 once what wait until lasting old later ends = (old, refl, record { waits = []; are = tt; later = later; ends = ends; all = refl })
 
-got_ends : (octets : List ℕ) (wait since : ℕ) (lasting : List ℕ) (answered : ℕ) → EndsBy (clock_by lasting) (Got octets) wait since (since + lasts (slice_get lasting answered) (Some octets) wait) []
-got_ends octets wait since [] answered = omega arith
-got_ends octets wait since (ms ∷ lasting) answered = refl
+got_ends : (got octets : List ℕ) (wait since : ℕ) (lasting : List ℕ) (answered : ℕ) → EndsBy (clock_by lasting) (Got got) wait since (since + lasts (slice_get lasting answered) (Some octets) wait) []
+got_ends got octets wait since [] answered = omega arith
+got_ends got octets wait since (ms ∷ lasting) answered = refl
 
 quiet_ends : (wait since : ℕ) (lasting : List ℕ) (answered : ℕ) → EndsBy (clock_by lasting) Quiet wait since (since + lasts (slice_get lasting answered) None wait) []
 quiet_ends wait since [] answered = refl
@@ -27,11 +27,13 @@ quiet_ends wait since (ms ∷ lasting) answered = refl
 
 pub polled_so : (polled : Polled) (into : List ℕ) (next : Option (List ℕ)) (wait : ℕ) (lasting : List ℕ) (answered : ℕ) (old : List Entry) → Answers polled into next →
     let until = newest_time old + lasts (slice_get lasting answered) next wait in
-    PollsAs polled into wait until (Recorded (clock_by lasting) old) (Recorded (clock_by lasting) (brought next until ∷ old))
+    PollsAs polled into wait (newest_time (brought next until ∷ old)) (Recorded (clock_by lasting) old) (Recorded (clock_by lasting) (brought next until ∷ old))
 polled_so (link_answer.Got n) into (Some octets) wait lasting answered old a =
-    let until : ℕ = newest_time old + lasts (slice_get lasting answered) (Some octets) wait in
-    (omega (arith, a.0), subst (λ (got : List ℕ). Polls (Got got) wait until (Recorded (clock_by lasting) old) (Recorded (clock_by lasting) (entry (Got (take longest_got octets)) until ∷ old))) (sym a.1)
-    (once (Got (take longest_got octets)) wait until lasting old (omega arith) (got_ends (take longest_got octets) wait (newest_time old) lasting answered)))
+    let until : ℕ = newest_time old + lasts (slice_get lasting answered) (Some octets) wait in (
+      omega (arith, a.0),
+      subst (λ (got : List ℕ). Polls (Got got) wait until (Recorded (clock_by lasting) old) (Recorded (clock_by lasting) (entry (Got (take longest_got octets)) until ∷ old))) (sym a.1)
+          (once (Got (take longest_got octets)) wait until lasting old (omega arith) (got_ends (take longest_got octets) octets wait (newest_time old) lasting answered)),
+    )
 polled_so link_answer.Quiet into None wait lasting answered old a =
     once Quiet wait (newest_time old + lasts (slice_get lasting answered) None wait) lasting old (omega arith) (quiet_ends wait (newest_time old) lasting answered)
 polled_so (link_answer.Got n) into None wait lasting answered old a = absurd a

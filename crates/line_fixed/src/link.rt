@@ -126,7 +126,6 @@ fn brought(
 impl Link for FixedLink {
     ghost use Rattle.std.specs.Prelude.{length, []};
     ghost use Rattle.line_model.specs.LinkStory.{Recorded, newest_time};
-
     ghost use Rattle.line_fixed.specs.Fixed.{clock_by};
 
     ghost story = { λ l. Recorded (clock_by l.lasting) l.entries };

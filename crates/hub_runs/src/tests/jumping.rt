@@ -51,13 +51,13 @@ fn ends_done(report: &Report) -> bool {
 #[test]
 fn the_clock_jumps_in_each_poll_in_turn(rt: HostRuntime) -> Result<(), Fail> {
     let alloc = rt.alloc();
-    let mut sought_again = 0u64;
+    let mut sought_again: u64 = 0;
     for n in 1..MANY {
         let (link, report) = run(&rt, alloc, n)?;
         assert!(rt; report.fault.is_none(), "{n}");
         assert!(rt; ends_done(&report), "{n}");
         if link.side.connects > 1 {
-            sought_again += 1;
+            sought_again = sought_again.saturating_add(1);
         }
         if link.polls < n {
             assert!(rt; sought_again > 0);

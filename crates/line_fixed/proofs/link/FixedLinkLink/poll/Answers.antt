@@ -12,4 +12,5 @@ returns-clause-polled c =
     let next = next_of link.gives link.last link.answered in
     let answer : Answers c.in_ok-item.polled c.brought.new.into next = grind (arith, common_steps) in
     let is : c.add.new.self ≡ brought next (newest_time link.entries + lasts (slice_get link.lasting link.answered) next c.args.wait_ms) ∷ link.entries = grind (arith, common_steps) in
-    rw is (polled_so _ _ next c.args.wait_ms link.lasting link.answered link.entries answer)
+    let kept : c.begin.new.self.lasting ≡ link.lasting = grind (arith, common_steps) in
+    rw (is, kept) (polled_so _ _ next c.args.wait_ms link.lasting link.answered link.entries answer)
