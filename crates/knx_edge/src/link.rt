@@ -106,7 +106,8 @@ impl<'a, R: Net + Clock, S: Datagrams> UdpLink<'a, R, S> {
         ensures error { IfErr done (λ error. (result ≡ Err (link_fault_of (error_kind error))) × (self.new ≡ record self.old { faults = counted (error_kind error) self.old.faults })) }
         ensures cause { FailsWhere result self.old.faults self.new.faults }
         ensures count { self.old.faults ≤ self.new.faults }
-        ensures events { self.new.done ≡ entries_after result self.old.done }
+        ensures events { self.old.done ≤ self.new.done }
+        ensures entry { self.new.done ≡ entries_after result self.old.done }
     {
         let error = match done {
             Ok(done) => {
