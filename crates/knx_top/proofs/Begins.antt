@@ -25,8 +25,8 @@ use Rattle.knx_model.specs.ScriptText.{first_stranger}
 use Rattle.line_model.specs.Lines.{Script, script_of}
 use Rattle.line_model.specs.StartOf.{BeginsAs, DeviceBegins, line_of, tunnel_address, is_on_bus}
 use Rattle.knx_top.specs.Begun.{BeginsLine, IsOldInRange}
-use Rattle.knx_top.specs.Judged.{unless_strange}
-use Rattle.knx_top.specs.OnLine.{AreCompiled, IsCompiled, IsImageWhere, addresses_of_line, on_bus}
+use Rattle.call_parts.specs.Judged.{unless_strange}
+use Rattle.call_parts.specs.OnLine.{AreCompiled, IsCompiled, IsImageWhere, addresses_of_line, on_bus}
 use Rattle.knx_top.proofs.OnBus.{any_on_bus}
 
 -- ---- one device

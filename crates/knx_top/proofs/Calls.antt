@@ -4,15 +4,15 @@ use Rattle.std.specs.Prelude.{IfSome}
 use Rattle.knx_top.specs.Call.{AtMostOneRose, AtPort, Does, Elsewhere, HasRun, HasRunMade, HasRunOf, NoRun, Outside, left_in, touches}
 use Rattle.bus_sim.specs.Loaded.{BusNow}
 use Rattle.knx_top.specs.Command.{Assign, AssignSim, Big, Check, Command, Decode, Find, Gateway, Sim, Tables, asked, Download}
-use Rattle.knx_top.specs.declared.ending.End.{End}
+use Rattle.call_parts.specs.declared.ending.End.{End}
 use Rattle.knx_top.specs.Ran.{FaultsOfLine, Ran, Left, Commission}
 use Rattle.knx_model.specs.Counts.{counts_of}
 use Rattle.knx_model.specs.Outside.{FilesNow}
-use Rattle.knx_top.specs.Ending.{Is, report_in, wanting}
+use Rattle.call_parts.specs.Ending.{Is, report_in, wanting}
 use Rattle.call_words.specs.declared.job_word.JobWord.{JobWord}
 use Rattle.line_model.specs.declared.log.Report.{Report}
 use Rattle.bus_sim.specs.RunNow.{RunNow}
-use Rattle.knx_top.specs.Input.{failed, first_some}
+use Rattle.call_parts.specs.Input.{failed, first_some}
 use Rattle.knx_top.specs.declared.commands.sim.SimTexts.{SimTexts}
 use Rattle.call_words.specs.declared.stop.Stop.{Stop}
 use Rattle.knx_top.proofs.commands.Assigns.{assign_sim_written, assign_written}
@@ -21,18 +21,18 @@ use Rattle.knx_top.proofs.commands.Downloads.{dialled_written}
 use Rattle.knx_top.proofs.commands.Decodes.{frame_written}
 use Rattle.knx_top.proofs.commands.Finds.{find_written}
 use Rattle.knx_top.proofs.commands.Gateways.{gateway_written}
-use Rattle.knx_top.proofs.commands.Projects.{project_written}
+use Rattle.call_parts.proofs.Projects.{project_written}
 use Rattle.knx_top.proofs.commands.Sims.{script_written}
-use Rattle.knx_top.proofs.Ends.{stopped_report}
+use Rattle.call_parts.proofs.Ends.{stopped_report}
 use Rattle.call_words.specs.declared.stop.Stop.TheVariants as stop
-use Rattle.knx_top.specs.declared.ending.End.TheVariants as ends
+use Rattle.call_parts.specs.declared.ending.End.TheVariants as ends
 use Rattle.knx_top.specs.commands.Assign.{AssignSimWords, AssignWords, RunsAssign, RunsAssignSim}
 use Rattle.knx_top.specs.commands.Big.{BigWords, RunsMade, commission_made, made, summed}
 use Rattle.knx_top.specs.commands.Check.{IsCountsText}
 use Rattle.knx_top.specs.commands.Tables.{IsTablesText}
 use Rattle.knx_top.specs.commands.Sim.{RunsScript, SimWords, commission_told, sim_tests, Runs, SimIsRead, failed_of_sim}
 use Rattle.knx_top.specs.commands.Decode.{TellsOfFrame}
-use Rattle.knx_top.specs.commands.Project.{TellsOfProject, ProjectWords, failed_of_project}
+use Rattle.call_parts.specs.Project.{TellsOfProject, ProjectWords, failed_of_project}
 use Rattle.knx_top.specs.commands.Download.{DownloadWords, RunsDialled, project_named}
 use Rattle.knx_top.specs.commands.Find.{FindWords, RunsFind}
 use Rattle.knx_top.specs.commands.Gateway.{GatewayWords, RunsGateway, failed_of_gateway}

@@ -15,10 +15,10 @@ use Rattle.line_model.specs.Log.{Job}
 use Rattle.line_model.specs.StartOf.{is_on_bus}
 use Rattle.report_text.specs.LineStatus.{has_failure, status_of}
 use Rattle.knx_top.specs.Complete.{IsReportedWhole, IsRunServed, IsRunTold, IsWithinBounds, NothingDisturbs}
-use Rattle.knx_top.specs.Jobs.{ArePlanned}
+use Rattle.call_parts.specs.Jobs.{ArePlanned}
 use Rattle.knx_top.specs.Ran.{Commission, Left, log_in}
 use Rattle.knx_top.specs.Undisturbed.{EndsSo, EndsUndisturbed, IsUndisturbed}
-use Rattle.knx_top.specs.declared.ending.End.TheVariants as ends
+use Rattle.call_parts.specs.declared.ending.End.TheVariants as ends
 use Rattle.knx_top.proofs.Undisturbed.{Laws, ends_undisturbed}
 
 -- ---- the jobs are those that the words name

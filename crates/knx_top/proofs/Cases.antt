@@ -7,7 +7,7 @@ use Rattle.call_words.specs.declared.case.Case.TheVariants.{New, Old, Stopped}
 use Rattle.knx_model.specs.Device.{NonVolatile, all_loaded, segments, runs}
 use Rattle.knx_model.specs.Meaning.{Installation, meaning}
 use Rattle.knx_model.specs.Tables.{StandsFor}
-use Rattle.knx_top.specs.OnLine.{IsImageWhere}
+use Rattle.call_parts.specs.OnLine.{IsImageWhere}
 use Rattle.knx_top.specs.Shown.{IsCase, IsNew, IsOld, IsStopped, RunsNew}
 
 image_where : Bool → Image → Option Image

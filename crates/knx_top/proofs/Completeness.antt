@@ -9,15 +9,15 @@ use Rattle.call_words.specs.declared.status.Status.TheVariants as status
 use Rattle.knx_model.specs.Meaning.{Installation}
 use Rattle.knx_model.specs.Outside.{FileContent, FilesNow, SinkNow, Untold, Absent, Holds, MayRead, Rose}
 use Rattle.call_words.specs.ReportText.{stop_status}
-use Rattle.knx_top.specs.Input.{limit, goes_on, IsRead, failed, first_some, OnlyRose, fault_in}
-use Rattle.knx_top.specs.Ending.{StopsFor, Replies, end_status, TellsText, TellsOf}
+use Rattle.call_parts.specs.Input.{limit, goes_on, IsRead, failed, first_some, OnlyRose, fault_in}
+use Rattle.call_parts.specs.Ending.{StopsFor, Replies, end_status, TellsText, TellsOf}
 use Rattle.knx_top.specs.Complete.{reading_told, named_told, texts_told, IsValid, NoneRose, IsToldWhole}
-use Rattle.knx_top.specs.declared.project.ProjectTexts.{ProjectTexts}
-use Rattle.knx_top.specs.declared.input.Reading.{Reading}
-use Rattle.knx_top.specs.declared.input.Reading.TheVariants as read
-use Rattle.knx_top.specs.declared.ending.End.{End}
-use Rattle.knx_top.specs.declared.ending.End.TheVariants as ends
-use Rattle.knx_top.specs.commands.Project.{ProjectWords, failed_of_project, project_tests, project_told, TellsOfProject}
+use Rattle.call_parts.specs.declared.project.ProjectTexts.{ProjectTexts}
+use Rattle.call_parts.specs.declared.input.Reading.{Reading}
+use Rattle.call_parts.specs.declared.input.Reading.TheVariants as read
+use Rattle.call_parts.specs.declared.ending.End.{End}
+use Rattle.call_parts.specs.declared.ending.End.TheVariants as ends
+use Rattle.call_parts.specs.Project.{ProjectWords, failed_of_project, project_tests, project_told, TellsOfProject}
 use Rattle.knx_top.specs.commands.Decode.{TellsOfFrame, octets_or_usage}
 
 -- ---- what was read

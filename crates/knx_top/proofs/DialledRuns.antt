@@ -20,13 +20,13 @@ use Rattle.line_model.specs.Log.{Job, IsLog}
 use Rattle.tunnel_link.specs.Goes.{GoesOn}
 use Rattle.tunnel_link.specs.Rights.{FailsWhere}
 use Rattle.knx_top.specs.Dialled.{HasItsCause, IsToldOver, MeansOver}
-use Rattle.knx_top.specs.Jobs.{ArePlanned, seen_job}
-use Rattle.knx_top.specs.Options.{SimOptions, workers_of}
+use Rattle.call_parts.specs.Jobs.{ArePlanned, seen_job}
+use Rattle.call_parts.specs.Options.{SimOptions, workers_of}
 use Rattle.knx_top.specs.Ran.{log_in}
 use Rattle.knx_top.specs.declared.commands.download.Ready.{Ready}
 use Rattle.knx_top.proofs.Driven.{devices_seen, jobs_seen}
 use Rattle.knx_top.proofs.Meanings.{devices_mean, done_means}
-use Rattle.knx_top.specs.declared.ending.End.TheVariants as ends
+use Rattle.call_parts.specs.declared.ending.End.TheVariants as ends
 use Rattle.knx_top.specs.commands.Download.{DialledRun, Dials, Download, IsReadyFor}
 
 -- ---- the dialer's count takes in the link's

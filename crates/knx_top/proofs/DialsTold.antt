@@ -8,16 +8,16 @@ use Rattle.knx_model.specs.Outside.{FilesNow, SinkNow, Rose}
 use Rattle.line_model.specs.Dialled.{DialerNow}
 use Rattle.line_model.specs.declared.log.Report.{Report}
 use Rattle.knx_top.specs.Complete.{IsDownloadTold, IsGatewayTold, IsValidDownload, IsValidGateway, NoneRose, gateway_texts_told, texts_told}
-use Rattle.knx_top.specs.Ending.{Replies, report_in}
-use Rattle.knx_top.specs.Input.{fault_in, failed, first_some, goes_on}
+use Rattle.call_parts.specs.Ending.{Replies, report_in}
+use Rattle.call_parts.specs.Input.{fault_in, failed, first_some, goes_on}
 use Rattle.knx_top.specs.commands.Download.{Dials, Download, DownloadWords, RunsDialled, download_tests, download_told, project_named}
 use Rattle.knx_top.specs.commands.Gateway.{GatewayWords, RunsGateway, Serves, Service, failed_of_gateway, gateway_tests, gateway_told}
-use Rattle.knx_top.specs.commands.Project.{failed_of_project}
+use Rattle.call_parts.specs.Project.{failed_of_project}
 use Rattle.knx_top.specs.declared.commands.gateway.GatewayTexts.{GatewayTexts}
-use Rattle.knx_top.specs.declared.ending.End.{End}
-use Rattle.knx_top.specs.declared.ending.End.TheVariants as ends
-use Rattle.knx_top.specs.declared.input.Reading.{Reading}
-use Rattle.knx_top.specs.declared.project.ProjectTexts.{ProjectTexts}
+use Rattle.call_parts.specs.declared.ending.End.{End}
+use Rattle.call_parts.specs.declared.ending.End.TheVariants as ends
+use Rattle.call_parts.specs.declared.input.Reading.{Reading}
+use Rattle.call_parts.specs.declared.project.ProjectTexts.{ProjectTexts}
 use Rattle.knx_top.proofs.Completeness.{ended, memory_told, named_read, no_fault, none_failed, one_read, wanting}
 use Rattle.knx_top.proofs.RunsTold.{one_none, wants_later, wants_now}
 

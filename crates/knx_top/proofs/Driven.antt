@@ -41,7 +41,7 @@ use Rattle.line_model.specs.World.{World, Event}
 use Rattle.tunnel_link.specs.Goes.{GoesOn}
 use Rattle.tunnel_link.specs.Rights.{FailsWhere, WhereTold}
 use Rattle.knx_top.specs.Begun.{IsOrder}
-use Rattle.knx_top.specs.Jobs.{seen_job}
+use Rattle.call_parts.specs.Jobs.{seen_job}
 use Rattle.knx_top.specs.Ran.{FailsAtLast, HasThreeTries, IsRunOf, KeepsPromises, Ran, log_in, Commission}
 use Rattle.knx_top.specs.declared.commands.sim.judge.Order.{Order}
 use Rattle.knx_top.proofs.Meanings.{devices_mean, done_means}

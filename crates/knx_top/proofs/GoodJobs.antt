@@ -15,7 +15,7 @@ use Rattle.knx_model.specs.Meaning.{Installation}
 use Rattle.knx_model.specs.Plans.{Plan}
 use Rattle.line_model.specs.Headline.{GoodCheck, IsGoodJob}
 use Rattle.line_model.specs.Log.{Job}
-use Rattle.knx_top.specs.Jobs.{ArePlanned, is_load, plan_of}
+use Rattle.call_parts.specs.Jobs.{ArePlanned, is_load, plan_of}
 
 -- a whole run of a plan that changes nothing gives every answer
 all_answered : (answers : Answering) (plan : Plan) (nv end : NonVolatile) → ((last : NonVolatile) → Beginning answers plan nv last → last ≡ nv) → WholeRun answers plan nv end → AnswersAll answers plan nv

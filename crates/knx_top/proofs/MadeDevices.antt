@@ -14,8 +14,8 @@ use Rattle.knx_model.specs.declared.address.IndAddr.{IndAddr}
 use Rattle.knx_model.specs.Rules.{devices_of, has_device}
 use Rattle.line_model.specs.StartOf.{line_of, tunnel_address, on_line_of_first, is_on_bus}
 use Rattle.project_check.proofs.Ascending.{any_device}
-use Rattle.knx_top.specs.Jobs.{load_of}
-use Rattle.knx_top.specs.OnLine.{address_at, on_bus}
+use Rattle.call_parts.specs.Jobs.{load_of}
+use Rattle.call_parts.specs.OnLine.{address_at, on_bus}
 use Rattle.knx_top.specs.commands.Big.{BigWords, made, nothing}
 
 -- ---- the addresses from 1.1.a on

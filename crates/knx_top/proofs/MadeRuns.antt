@@ -47,15 +47,15 @@ use Rattle.line_model.specs.World.{World, Event, replay}
 use Rattle.report_text.proofs.Statuses.{done_exactly}
 use Rattle.report_text.specs.LineStatus.{EachDone, is_done, status_of}
 use Rattle.knx_top.specs.Complete.{IsLoadedWhole, IsReportedWhole, IsRunTold, IsWithinBounds, counts_made}
-use Rattle.knx_top.specs.Jobs.{ArePlanned, IsPlanned, load_of}
-use Rattle.knx_top.specs.OnLine.{on_bus}
+use Rattle.call_parts.specs.Jobs.{ArePlanned, IsPlanned, load_of}
+use Rattle.call_parts.specs.OnLine.{on_bus}
 use Rattle.knx_top.specs.Ran.{Commission, Left, Ran, log_in}
 use Rattle.knx_top.specs.Shown.{AreShown, IsCase, IsNew, IsOld, IsStopped, IsShown, RunsNew}
 use Rattle.knx_top.specs.Undisturbed.{AllServed, EndsSo, IsUndisturbed}
-use Rattle.knx_top.specs.Host.{unless_zero}
-use Rattle.knx_top.specs.Options.{from_1_to}
+use Rattle.call_parts.specs.Host.{unless_zero}
+use Rattle.call_parts.specs.Options.{from_1_to}
 use Rattle.knx_top.specs.commands.Big.{BigWords, big_words, commission_made, made, nothing, start_value}
-use Rattle.knx_top.specs.declared.ending.End.TheVariants as ends
+use Rattle.call_parts.specs.declared.ending.End.TheVariants as ends
 use Rattle.knx_top.proofs.CalmRuns.{on_line, never_more}
 use Rattle.knx_top.proofs.DoneCounts.{all_done, done_either_way, job_at, numbered, told_tells}
 use Rattle.knx_top.proofs.MadeDevices.{all_on, each_on, has_it, how_many, length_made, listed}

@@ -15,7 +15,7 @@ use Rattle.line_model.specs.Legal.{AtEveryMoment, OfDevice}
 use Rattle.line_model.specs.Log.{Job, job_of}
 use Rattle.line_model.specs.OldStoppedOrNew.{Both, DoneSo, IsCase, MeansWhereDone, OldStoppedOr, OldStoppedOrNew, RunsJob, RunsMeaning, RunsWhereDone, world_at}
 use Rattle.line_model.specs.World.{World, Event, replay}
-use Rattle.knx_top.specs.Jobs.{ArePlanned}
+use Rattle.call_parts.specs.Jobs.{ArePlanned}
 use Rattle.table_compiler.specs.Images.{IsImage}
 
 -- ---- the job of a number

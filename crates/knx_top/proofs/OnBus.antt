@@ -7,7 +7,7 @@ use Rattle.knx_model.specs.declared.address.IndAddr.{IndAddr}
 use Rattle.knx_model.specs.Meaning.{Installation}
 use Rattle.knx_model.specs.Rules.{has_device}
 use Rattle.line_model.specs.StartOf.{line_of, tunnel_address, is_on_bus}
-use Rattle.knx_top.specs.OnLine.{address_at, on_bus}
+use Rattle.call_parts.specs.OnLine.{address_at, on_bus}
 use Rattle.knx_top.proofs.Tunnels.{bus_more}
 
 -- ---- one address more

@@ -8,10 +8,10 @@ use Rattle.call_words.specs.declared.job_word.JobWord.{JobWord}
 use Rattle.knx_model.specs.declared.script.ScriptLine.{ScriptLine}
 use Rattle.knx_model.specs.Meaning.{Installation}
 use Rattle.knx_top.specs.Begun.{BeginsLine, IsPrepared, OrderFor}
-use Rattle.knx_top.specs.Judged.{unless_strange}
-use Rattle.knx_top.specs.Stops.{is_known, unknown_job}
+use Rattle.call_parts.specs.Judged.{unless_strange}
+use Rattle.call_parts.specs.Stops.{is_known, unknown_job}
 use Rattle.knx_top.specs.declared.commands.sim.judge.Order.{Order}
-use Rattle.knx_top.specs.Options.{SimOptions}
+use Rattle.call_parts.specs.Options.{SimOptions}
 use Rattle.knx_top.specs.commands.Sim.{with_lines}
 
 pub strange_ends : (o : SimOptions) (new old : Installation) (lines : List ScriptLine) (why : Stop) → (why ≢ stop.NoMemory tt → unless_strange new old lines ≡ Err why) → why ≢ stop.NoMemory tt → with_lines o new old lines ≡ Err why

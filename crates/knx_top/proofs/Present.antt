@@ -12,7 +12,7 @@ use Rattle.line_model.specs.Lines.{Script, script_of}
 use Rattle.line_model.specs.StartOf.{BusOf, DeviceBegins, is_on_bus, line_of, tunnel_address}
 use Rattle.line_model.specs.World.{World, Event, replay}
 use Rattle.knx_top.specs.Begun.{BeginsLine, IsOrder}
-use Rattle.knx_top.specs.OnLine.{AreCompiled, addresses_of_line, on_bus}
+use Rattle.call_parts.specs.OnLine.{AreCompiled, addresses_of_line, on_bus}
 use Rattle.knx_top.specs.declared.commands.sim.judge.Order.{Order}
 use Rattle.knx_top.specs.Ran.{Commission}
 

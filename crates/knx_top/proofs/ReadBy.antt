@@ -7,7 +7,7 @@ use Rattle.std.proofs.lemmas.List.{take-append-drop}
 use Rattle.std.proofs.lemmas.Option.{same_Some}
 use Rattle.std.proofs.lemmas.Slice.Eq.{bytes_eq-Decides}
 use Rattle.knx_model.specs.Addresses.{◌>>=◌}
-use Rattle.knx_top.specs.Fronts.{Row, Spells, SpellsAll, read_all, read_by}
+use Rattle.call_parts.specs.Fronts.{Row, Spells, SpellsAll, read_all, read_by}
 
 -- ---- a table in which no front begins another, so that a word is of one row at most
 

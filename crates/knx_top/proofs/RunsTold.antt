@@ -9,15 +9,15 @@ use Rattle.knx_model.specs.declared.counts.Counts.{Counts}
 use Rattle.knx_model.specs.Counts.{counts_of}
 use Rattle.knx_model.specs.Outside.{FilesNow, SinkNow, Rose}
 use Rattle.knx_top.specs.Complete.{IsRunTold, IsValidRun, NoneRose, sim_texts_told}
-use Rattle.knx_top.specs.Ending.{Replies, report_in}
-use Rattle.knx_top.specs.Input.{fault_in, failed, first_some, goes_on}
+use Rattle.call_parts.specs.Ending.{Replies, report_in}
+use Rattle.call_parts.specs.Input.{fault_in, failed, first_some, goes_on}
 use Rattle.knx_top.specs.Ran.{Commission, Left}
 use Rattle.knx_top.specs.commands.Big.{BigWords, RunsMade, commission_made, made, summed}
 use Rattle.knx_top.specs.commands.Sim.{Runs, RunsScript, SimWords, commission_told, failed_of_sim, sim_tests}
 use Rattle.knx_top.specs.declared.commands.sim.SimTexts.{SimTexts}
-use Rattle.knx_top.specs.declared.ending.End.{End}
-use Rattle.knx_top.specs.declared.ending.End.TheVariants as ends
-use Rattle.knx_top.specs.declared.input.Reading.{Reading}
+use Rattle.call_parts.specs.declared.ending.End.{End}
+use Rattle.call_parts.specs.declared.ending.End.TheVariants as ends
+use Rattle.call_parts.specs.declared.input.Reading.{Reading}
 use Rattle.knx_top.proofs.Completeness.{ended, memory_told, named_read, no_fault, none_failed, one_read, wanting}
 
 -- ---- what was written of a run

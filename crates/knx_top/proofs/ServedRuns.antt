@@ -26,8 +26,8 @@ use Rattle.line_model.specs.World.{World, Event}
 use Rattle.knx_top.specs.Begun.{BeginsLine}
 use Rattle.knx_top.proofs.Answered.{added_below, breaks_below, by_added, if_cause_below, none_below, so_below}
 use Rattle.knx_top.proofs.DialledRuns.{to_address}
-use Rattle.knx_top.specs.Identity.{about_gateway, own_endpoint}
-use Rattle.knx_top.specs.declared.ending.ServiceEnd.{ServiceEnd}
+use Rattle.call_parts.specs.Identity.{about_gateway, own_endpoint}
+use Rattle.call_parts.specs.declared.ending.ServiceEnd.{ServiceEnd}
 use Rattle.knx_top.specs.commands.Gateway.{end_of_serving, HasCause, IsBrokenOff, IsServed, ServedRun, Service, ServesTo, Serving, unless_failed}
 
 -- ---- a serving in which an answer failed broke off so, if not otherwise

@@ -21,13 +21,13 @@ use Rattle.line_model.specs.World.{World, Event, replay}
 use Rattle.call_words.specs.declared.job_word.JobWord.{JobWord}
 use Rattle.tunnel_link.specs.Goes.{GoesOn}
 use Rattle.knx_top.specs.Ran.{FaultsOfLine, Ran, Commission}
-use Rattle.knx_top.specs.OnLine.{AreCompiled, IsCompiled, IsImageWhere, on_bus}
-use Rattle.knx_top.specs.Ending.{report_in}
+use Rattle.call_parts.specs.OnLine.{AreCompiled, IsCompiled, IsImageWhere, on_bus}
+use Rattle.call_parts.specs.Ending.{report_in}
 use Rattle.knx_top.specs.Shown.{AreShown, AreShownOf, IsShown, IsShownIn}
 use Rattle.knx_top.proofs.Driven.{same_start, told_whole}
 use Rattle.knx_top.proofs.Meanings.{now_case}
-use Rattle.knx_top.specs.declared.ending.End.{End}
-use Rattle.knx_top.specs.declared.ending.End.TheVariants as ends
+use Rattle.call_parts.specs.declared.ending.End.{End}
+use Rattle.call_parts.specs.declared.ending.End.TheVariants as ends
 use Rattle.knx_top.specs.commands.Sim.{ShowsRun, Runs}
 
 -- ---- the devices of the line stay on it

@@ -5,11 +5,11 @@ use Rattle.std.specs.Option.{option_map}
 use Rattle.std.proofs.lemmas.Slice.Eq.{bytes_eq-Decides}
 use Rattle.knx_top.specs.Command.{Command, Check, Tables, Sim, Decode, SpellsCommand, SpellsCheck, SpellsTables, SpellsSim, SpellsDecode, SpellsDownload, SpellsGateway, SpellsSearch, SpellsDescription, SpellsAssign, SpellsAssignSim, SpellsBig, Assign, AssignSim, Big, Download, Find, Gateway, asked, assign_asked, other_asked}
 use Rattle.line_model.specs.Dialled.{Address}
-use Rattle.knx_top.specs.Fronts.{Spells, SpellsAll}
-use Rattle.knx_top.specs.Host.{address_value}
+use Rattle.call_parts.specs.Fronts.{Spells, SpellsAll}
+use Rattle.call_parts.specs.Host.{address_value}
 use Rattle.knx_top.proofs.ReadBy.{AreApart, all_from, all_to, fronts, none_begins_another, reads_spelled, spells_read}
-use Rattle.knx_top.specs.commands.Project.{ProjectWords, project_words}
-use Rattle.knx_top.specs.Options.{SimOptions, from_1_to, no_options, project_options, project_rows, run_rows, sim_options}
+use Rattle.call_parts.specs.Project.{ProjectWords, project_words}
+use Rattle.call_parts.specs.Options.{SimOptions, from_1_to, no_options, project_options, project_rows, run_rows, sim_options}
 use Rattle.knx_top.specs.commands.Sim.{SimWords, sim_words}
 use Rattle.knx_model.specs.Addresses.{ind_value}
 use Rattle.knx_model.specs.declared.address.IndAddr.{IndAddr}

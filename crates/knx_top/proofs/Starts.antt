@@ -7,7 +7,7 @@ use Rattle.std.specs.Result.{result_ok}
 use Rattle.std.specs.Str.Parse.{digits_value, AllDigits, IsNumeral, ParsesUnsigned, without_leading_plus}
 use Rattle.std.proofs.lemmas.Bool.{lt-ltb, le-leb, leb-true, ne_eqb}
 use Rattle.knx_model.specs.Numbers.{is_digit, numeral, up_to}
-use Rattle.knx_top.proofs.Hosts.{all_digits, no_digits}
+use Rattle.call_parts.proofs.Hosts.{all_digits, no_digits}
 use Rattle.knx_top.specs.commands.Big.{start_value}
 
 -- a digit is no plus

@@ -10,9 +10,9 @@ use Rattle.line_model.specs.declared.group.GroupTurn.{GroupTurn}
 use Rattle.line_model.specs.declared.log.Report.{Report}
 use Rattle.line_model.specs.Log.{Job}
 use Rattle.report_text.specs.LineStatus.{has_failure, line_status, status_of}
-use Rattle.knx_top.specs.declared.ending.End.{End}
-use Rattle.knx_top.specs.declared.ending.End.TheVariants as ends
-use Rattle.knx_top.specs.Ending.{Replies}
+use Rattle.call_parts.specs.declared.ending.End.{End}
+use Rattle.call_parts.specs.declared.ending.End.TheVariants as ends
+use Rattle.call_parts.specs.Ending.{Replies}
 use Rattle.knx_top.specs.Ran.{log_in}
 use Rattle.knx_top.specs.Undisturbed.{EndsSo, MayEndWith}
 use Rattle.knx_top.proofs.Calls.{TellsIts}

@@ -23,7 +23,7 @@ use Rattle.line_model.specs.StartOf.{BusOf, DeviceBegins, is_on_bus}
 use Rattle.line_model.specs.Telegrams.{ActsByConfig, ActsByImage, ActsByProject, ActsRight, EventActsRight, TelegramsActRight, responses, value_after}
 use Rattle.line_model.specs.World.{World, Event, replay}
 use Rattle.knx_top.specs.Begun.{IsOldInRange}
-use Rattle.knx_top.specs.Jobs.{ArePlanned}
+use Rattle.call_parts.specs.Jobs.{ArePlanned}
 use Rattle.table_compiler.specs.Images.{IsImage}
 use Rattle.knx_top.proofs.Addresses.{Named, always_named}
 use Rattle.knx_top.proofs.Meanings.{now_case, planned_of}

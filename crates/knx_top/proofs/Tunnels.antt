@@ -6,7 +6,7 @@ use Rattle.std.proofs.lemmas.List.{map-append}
 use Rattle.std.proofs.lemmas.List.Elements.{filter-append}
 use Rattle.knx_model.specs.declared.address.IndAddr.{IndAddr}
 use Rattle.line_model.specs.StartOf.{default_tunnel, on_line_of_first}
-use Rattle.knx_top.specs.OnLine.{address_at}
+use Rattle.call_parts.specs.OnLine.{address_at}
 
 abbrev beside : IndAddr → IndAddr
 beside first = record { raw = first.raw / 256 * 256 + 255 }

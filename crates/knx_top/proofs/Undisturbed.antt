@@ -53,7 +53,7 @@ use Rattle.line_model.specs.Tunnel.{Commissions, Tunnel}
 use Rattle.line_model.specs.Undisturbed as line
 use Rattle.line_model.specs.Undisturbed.{FailsNot, HasDevices, IsPrompt, IsServedJob, NothingFailed, RefusesRightly, is_undisturbing}
 use Rattle.line_model.specs.World.{World, Event, me}
-use Rattle.knx_top.specs.Jobs.{ArePlanned, IsPlanned, is_load, plan_of}
+use Rattle.call_parts.specs.Jobs.{ArePlanned, IsPlanned, is_load, plan_of}
 use Rattle.table_compiler.proofs.Unique.{one_image}
 use Rattle.knx_top.proofs.Meanings.{planned_of}
 use Rattle.knx_top.specs.Ran.{Commission, IsRunOf, IsTold, Ran, log_in}

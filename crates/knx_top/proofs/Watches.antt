@@ -10,11 +10,11 @@ use Rattle.line_model.specs.LinkStory.{Story}
 use Rattle.line_model.specs.Watched.{Told, Untold, Watch, watch_in}
 use Rattle.hub_work.specs.Downloaders.{Task}
 use Rattle.shared_hub.specs.Runs.{WatchesRun}
-use Rattle.knx_top.specs.declared.ending.End.{End}
-use Rattle.knx_top.specs.declared.ending.End.TheVariants as ends
+use Rattle.call_parts.specs.declared.ending.End.{End}
+use Rattle.call_parts.specs.declared.ending.End.TheVariants as ends
 use Rattle.knx_top.specs.Call.{touches}
 use Rattle.knx_top.specs.Command.{Command}
-use Rattle.knx_top.specs.Ending.{report_in}
+use Rattle.call_parts.specs.Ending.{report_in}
 use Rattle.knx_top.specs.Watched.{TellsWatcher, is_quiet}
 use Rattle.knx_top.specs.commands.Big.{summed}
 use Rattle.knx_top.specs.commands.Sim.{ShowsRun}

@@ -5,5 +5,4 @@ pub mod Decodes
 pub mod Downloads
 pub mod Finds
 pub mod Gateways
-pub mod Projects
 pub mod Sims

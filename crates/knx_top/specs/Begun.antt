@@ -14,10 +14,10 @@ use Rattle.hub_work.specs.Requests.{IsTurnInRange}
 use Rattle.line_model.specs.Lines.{script_of}
 use Rattle.line_model.specs.Headline.{IsGoodJob}
 use Rattle.line_model.specs.StartOf.{BusOf, is_on_bus}
-use Rattle.knx_top.specs.Jobs.{AreJobs, ArePlanned, seen_job}
-use Rattle.knx_top.specs.OnLine.{AreCompiled, on_bus}
-use Rattle.knx_top.specs.Options.{workers_of}
-use Rattle.knx_top.specs.Turns.{turns_of}
+use Rattle.call_parts.specs.Jobs.{AreJobs, ArePlanned, seen_job}
+use Rattle.call_parts.specs.OnLine.{AreCompiled, on_bus}
+use Rattle.call_parts.specs.Options.{workers_of}
+use Rattle.call_parts.specs.Turns.{turns_of}
 use Rattle.knx_top.specs.Ran.{Commission}
 use Rattle.knx_top.specs.declared.commands.sim.judge.Order.{Order}
 

@@ -9,20 +9,20 @@ use Rattle.knx_top.specs.commands.Assign.{RunsAssign, RunsAssignSim}
 use Rattle.knx_top.specs.commands.Big.{BigWords, RunsMade, commission_made}
 use Rattle.knx_top.specs.commands.Download.{DownloadWords, RunsDialled, files_of_download}
 use Rattle.knx_top.specs.commands.Find.{RunsFind}
-use Rattle.knx_top.specs.declared.ending.End.{End}
+use Rattle.call_parts.specs.declared.ending.End.{End}
 use Rattle.knx_model.specs.Outside.{FilesNow}
 use Rattle.knx_top.specs.commands.Gateway.{GatewayWords, RunsGateway, files_of_gateway}
 use Rattle.knx_top.specs.commands.Check.{IsCountsText}
 use Rattle.knx_top.specs.commands.Tables.{IsTablesText}
-use Rattle.knx_top.specs.Input.{OnlyRose, first_some}
+use Rattle.call_parts.specs.Input.{OnlyRose, first_some}
 use Rattle.line_model.specs.declared.log.Report.{Report}
 use Rattle.bus_sim.specs.RunNow.{RunNow}
 use Rattle.knx_top.specs.commands.Sim.{RunsScript, files_of_sim, SimIsRead, SimWords, commission_told, sim_tests}
 use Rattle.knx_top.specs.declared.commands.sim.SimTexts.{SimTexts}
 use Rattle.knx_top.specs.commands.Decode.{TellsOfFrame}
-use Rattle.knx_top.specs.commands.Project.{TellsOfProject, files_of_project}
+use Rattle.call_parts.specs.Project.{TellsOfProject, files_of_project}
 use Rattle.call_words.specs.declared.stop.Stop.TheVariants as stop
-use Rattle.knx_top.specs.declared.ending.End.TheVariants as ends
+use Rattle.call_parts.specs.declared.ending.End.TheVariants as ends
 
 -- ---- what it touches and reads
 

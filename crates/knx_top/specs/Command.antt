@@ -9,11 +9,11 @@ use Rattle.knx_top.specs.commands.Download.{DownloadWords, download_words, downl
 use Rattle.discovery.specs.declared.inquiry.Inquiry.TheVariants.{Search, Description}
 use Rattle.knx_top.specs.commands.Find.{FindWords, find_words, find_words_of}
 use Rattle.knx_top.specs.commands.Gateway.{GatewayWords, gateway_words, gateway_words_of, turns_rows}
-use Rattle.knx_top.specs.commands.Project.{ProjectWords, project_words, project_words_of}
-use Rattle.knx_top.specs.Options.{SimOptions, from_1_to, no_options, project_rows, run_rows}
+use Rattle.call_parts.specs.Project.{ProjectWords, project_words, project_words_of}
+use Rattle.call_parts.specs.Options.{SimOptions, from_1_to, no_options, project_rows, run_rows}
 use Rattle.knx_top.specs.commands.Sim.{SimWords, sim_words, sim_words_of}
-use Rattle.knx_top.specs.Fronts.{Spells, SpellsAll}
-use Rattle.knx_top.specs.Host.{address_value}
+use Rattle.call_parts.specs.Fronts.{Spells, SpellsAll}
+use Rattle.call_parts.specs.Host.{address_value}
 use Rattle.knx_top.specs.commands.Decode.{decode_word}
 use Rattle.std.specs.Option.{option_map}
 use Rattle.knx_top.specs.declared.commands.Command.TheVariants as parsed

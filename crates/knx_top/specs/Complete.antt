@@ -23,26 +23,26 @@ use Rattle.line_model.specs.StartOf.{is_on_bus}
 use Rattle.line_model.specs.Undisturbed as line
 use Rattle.report_text.specs.LineStatus.{line_status}
 use Rattle.knx_top.specs.Dialled.{FailsToOpen}
-use Rattle.knx_top.specs.Ending.{end_text, service_status, service_text}
+use Rattle.call_parts.specs.Ending.{end_text, service_status, service_text}
 use Rattle.knx_top.specs.Headline.{OfItsJobs}
-use Rattle.knx_top.specs.Jobs.{AreJobs}
+use Rattle.call_parts.specs.Jobs.{AreJobs}
 use Rattle.knx_top.specs.Ran.{Commission, Left, log_in}
 use Rattle.knx_top.specs.Undisturbed.{AllServed}
 use Rattle.knx_top.specs.commands.Big.{BigWords}
-use Rattle.knx_top.specs.commands.Project.{ProjectWords, project_tests}
+use Rattle.call_parts.specs.Project.{ProjectWords, project_tests}
 use Rattle.knx_top.specs.commands.Download.{DialledRun, Download, DownloadWords, download_tests, project_named}
 use Rattle.knx_top.specs.commands.Gateway.{GatewayWords, ServedRun, Service, gateway_tests}
 use Rattle.knx_top.specs.commands.Sim.{IsReported, SimWords, sim_tests}
 use Rattle.knx_top.specs.declared.commands.gateway.GatewayTexts.{GatewayTexts}
 use Rattle.knx_top.specs.declared.commands.sim.SimTexts.{SimTexts}
-use Rattle.knx_top.specs.declared.ending.End.{End}
-use Rattle.knx_top.specs.declared.ending.End.TheVariants as ends
-use Rattle.knx_top.specs.declared.ending.Reported.{Reported}
-use Rattle.knx_top.specs.declared.ending.ServiceEnd.{ServiceEnd}
-use Rattle.knx_top.specs.Input.{limit, goes_on, first_some}
-use Rattle.knx_top.specs.declared.project.ProjectTexts.{ProjectTexts}
-use Rattle.knx_top.specs.declared.input.Reading.{Reading}
-use Rattle.knx_top.specs.declared.input.Reading.TheVariants as read
+use Rattle.call_parts.specs.declared.ending.End.{End}
+use Rattle.call_parts.specs.declared.ending.End.TheVariants as ends
+use Rattle.call_parts.specs.declared.ending.Reported.{Reported}
+use Rattle.call_parts.specs.declared.ending.ServiceEnd.{ServiceEnd}
+use Rattle.call_parts.specs.Input.{limit, goes_on, first_some}
+use Rattle.call_parts.specs.declared.project.ProjectTexts.{ProjectTexts}
+use Rattle.call_parts.specs.declared.input.Reading.{Reading}
+use Rattle.call_parts.specs.declared.input.Reading.TheVariants as read
 
 -- a file that is told to be there, as it is read
 abbrev pub reading_told : FileContent → Reading

@@ -15,7 +15,7 @@ use Rattle.line_model.specs.Telegrams.{TelegramsActRight, ActsByProject}
 use Rattle.hub_core.specs.Thorough.{IsThorough}
 use Rattle.hub_core.specs.Closed.{HasClosed}
 use Rattle.hub_core.specs.Seats.{IsOfWorkers}
-use Rattle.knx_top.specs.Jobs.{AreJobs, ArePlanned}
+use Rattle.call_parts.specs.Jobs.{AreJobs, ArePlanned}
 use Rattle.knx_top.specs.Ran.{IsRunOf, log_in, Commission}
 
 -- P holds of the jobs of the run: those that the words name, or a load of each device, with the plans of the new project's compiled images

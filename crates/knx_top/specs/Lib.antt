@@ -1,17 +1,3 @@
-pub mod Searched
-pub mod Given
-pub mod Ending
-pub mod Fronts
-pub mod Host
-pub mod Identity
-pub mod Options
-pub mod Input
-pub mod OnLine
-pub mod Jobs
-pub mod Turns
-pub mod Stops
-pub mod Names
-pub mod Judged
 pub mod Ran
 pub mod Shown
 pub mod Headline

@@ -6,8 +6,8 @@ use Rattle.std.specs.Prelude.{ℕ, IfSome, List, None, Option, Some, ◌≡◌, 
 use Rattle.line_model.specs.ActedOnce.{ActedOnce}
 use Rattle.line_model.specs.Telegrams.{ActsByProject, TelegramsActRight}
 use Rattle.line_model.specs.Log.{AllOver, Job, TakenInOrder, TurnUnfinished}
-use Rattle.knx_top.specs.Jobs.{AreJobs, ArePlanned}
-use Rattle.knx_top.specs.Turns.{turns_of}
+use Rattle.call_parts.specs.Jobs.{AreJobs, ArePlanned}
+use Rattle.call_parts.specs.Turns.{turns_of}
 use Rattle.bus_sim.specs.Loaded.{BusNow}
 use Rattle.line_model.specs.StartOf.{BusOf}
 use Rattle.line_model.specs.Tunnel.{Commissions}
@@ -35,7 +35,7 @@ use Rattle.line_model.specs.declared.log.Report.{Report}
 use Rattle.knx_model.specs.Outside.{Rose}
 use Rattle.bus_sim.specs.RunNow.{RunNow, start}
 use Rattle.knx_model.specs.declared.script.ScriptLine.{ScriptLine}
-use Rattle.knx_top.specs.Options.{SimOptions, workers_of}
+use Rattle.call_parts.specs.Options.{SimOptions, workers_of}
 use Rattle.line_model.specs.Record.{record_of, placed}
 use Rattle.line_model.specs.Lines.{script_of}
 use Rattle.line_model.specs.ClientView.{indications}

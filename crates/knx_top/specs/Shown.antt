@@ -13,7 +13,7 @@ use Rattle.knx_model.specs.Promises.{RunsProject}
 use Rattle.knx_model.specs.Rules.{has_device}
 use Rattle.call_words.specs.Printed.{DeviceShown, values_shown}
 use Rattle.line_model.specs.World.{World}
-use Rattle.knx_top.specs.OnLine.{IsImageWhere}
+use Rattle.call_parts.specs.OnLine.{IsImageWhere}
 
 -- it is one of the project's devices and runs what the project says of it
 pub record RunsNew (project : Installation) (device : IndAddr) (nv : NonVolatile) : Type 0 where

@@ -6,6 +6,5 @@ pub mod Decode
 pub mod Download
 pub mod Find
 pub mod Gateway
-pub mod Project
 pub mod Sim
 pub mod Tables

@@ -3,10 +3,10 @@
 ghost use Rattle.std.specs.Prelude.{◌≡◌, ◌≤◌, ◌+◌, ℕ, List, None, Some, false, length, map, string_bytes, true};
 ghost use Rattle.call_words.specs.declared.stop.Stop.TheVariants.{Usage};
 ghost use Rattle.knx_model.specs.Outside.{one_more};
-ghost use Rattle.knx_top.specs.declared.ending.End.TheVariants.{Stops};
+ghost use Rattle.call_parts.specs.declared.ending.End.TheVariants.{Stops};
 ghost use Rattle.knx_top.specs.Call.{AtMostOneRose, Does, HasRunOf, files_of, touches, touches_units};
 ghost use Rattle.knx_top.specs.Command.{Assign as AskedAssign, AssignSim as AskedAssignSim, Big as AskedBig, Check as AskedCheck, Decode as AskedDecode, Download as AskedDownload, Find as AskedFind, Gateway as AskedGateway, Sim as AskedSim, Tables as AskedTables, asked, command_of};
-ghost use Rattle.knx_top.specs.Ending.{Is, Replies, report_in};
+ghost use Rattle.call_parts.specs.Ending.{Is, Replies, report_in};
 ghost use Rattle.knx_top.specs.Headline.{ActsOnce, BeganRightly, ClosesToItsEnd, EndsEveryJob, EndsThoroughly, HasFaultRight, HasLostNoTime, HasOldStoppedOrNew, HasTelegramsRight, IsOfItsWorkers, IsToldRightly, LeavesItsChannel, RunsWhereDone};
 ghost use Rattle.knx_top.specs.Ran.{FaultsOfLine};
 ghost use Rattle.knx_top.specs.Undisturbed.{EndsUndisturbed};
@@ -19,16 +19,16 @@ ghost use Rattle.knx_top.specs.commands.Decode.{TellsOfFrame};
 ghost use Rattle.knx_top.specs.commands.Download.{DownloadWords, RunsDialled};
 ghost use Rattle.knx_top.specs.commands.Find.{FindWords, RunsFind};
 ghost use Rattle.knx_top.specs.commands.Gateway.{GatewayWords, RunsGateway};
-ghost use Rattle.knx_top.specs.commands.Project.{ProjectWords, TellsOfProject};
+ghost use Rattle.call_parts.specs.Project.{ProjectWords, TellsOfProject};
 ghost use Rattle.knx_top.specs.commands.Sim.{RunsScript, SimWords};
 ghost use Rattle.knx_top.specs.commands.Tables.{IsTablesText};
 
 use crate::commands::{
     Command, asked, assign, big, check, decode, download, find, gateway, sim, tables,
 };
-use crate::ending::{End, tell, tell_end};
 use address_sim::AddressBus;
 use bus_sim::SimBus;
+use call_parts::{End, tell, tell_end};
 use call_words::Status;
 use calm_law::{
     each_check_is_exact, nothing_fails_on_a_calm_line, the_gateway_tells_its_own_address,

@@ -9,15 +9,15 @@ ghost use Rattle.knx_model.specs.Outside.{FilesNow, Rose, SinkNow};
 ghost use Rattle.knx_top.specs.Complete.{IsLoadedWhole, IsRunServed, IsRunTold, IsToldWhole, IsValid, IsValidRun, IsWithinBounds, NoneRose, NothingDisturbs, sim_texts_told, texts_told, IsDownloadTold, IsGatewayTold, IsValidDownload, IsValidGateway, gateway_texts_told};
 ghost use Rattle.line_model.specs.Dialled.{DialerNow};
 ghost use Rattle.line_model.specs.declared.log.Report.{Report};
-ghost use Rattle.knx_top.specs.Ending.{Replies};
+ghost use Rattle.call_parts.specs.Ending.{Replies};
 ghost use Rattle.knx_top.specs.Ran.{Left};
-ghost use Rattle.knx_top.specs.declared.ending.End.TheVariants.{Reports, Sums};
+ghost use Rattle.call_parts.specs.declared.ending.End.TheVariants.{Reports, Sums};
 ghost use Rattle.knx_top.specs.commands.Big.{BigWords, RunsMade, big_words, commission_made, made};
 ghost use Rattle.knx_top.specs.commands.Check.{IsCountsText};
 ghost use Rattle.knx_top.specs.commands.Decode.{TellsOfFrame};
 ghost use Rattle.knx_top.specs.commands.Download.{DownloadWords, RunsDialled, download_told, project_named};
 ghost use Rattle.knx_top.specs.commands.Gateway.{GatewayWords, RunsGateway, gateway_told};
-ghost use Rattle.knx_top.specs.commands.Project.{ProjectWords, TellsOfProject, project_told};
+ghost use Rattle.call_parts.specs.Project.{ProjectWords, TellsOfProject, project_told};
 ghost use Rattle.knx_top.specs.commands.Sim.{RunsScript, SimWords, commission_told};
 ghost use Rattle.knx_top.specs.commands.Tables.{IsTablesText};
 

@@ -4,18 +4,8 @@
 mod call;
 mod commands;
 mod complete;
-mod ending;
-mod given;
-mod host;
-mod identity;
-mod input;
-mod jobs;
 mod line;
-mod options;
-mod project;
-mod searched;
 mod shown;
-mod turns;
 mod watched;
 
 pub use address_sim::AddressBus;

@@ -6,12 +6,12 @@ ghost use Rattle.knx_model.specs.declared.address.IndAddr.{IndAddr as Address};
 ghost use Rattle.call_words.specs.declared.stop.Stop.TheVariants.{NoMemory as OutOfMemory};
 ghost use Rattle.line_model.specs.StartOf.{on_line_of_first, tunnel_address};
 ghost use Rattle.knx_top.specs.Begun.{BeginsLine};
-ghost use Rattle.knx_top.specs.Judged.{unless_strange};
-ghost use Rattle.knx_top.specs.OnLine.{AreCompiled, IsImageWhere, on_bus};
+ghost use Rattle.call_parts.specs.Judged.{unless_strange};
+ghost use Rattle.call_parts.specs.OnLine.{AreCompiled, IsImageWhere, on_bus};
 ghost use Rattle.table_compiler.specs.Images.{AreImagesOf};
 
-use crate::project::refusal;
 use bus_sim::SimBus;
+use call_parts::refusal;
 use call_words::{InputFile, Stop};
 use knx_model::{Image, IndAddr, List, NoMemory};
 use project_check::Checked;

@@ -8,7 +8,7 @@ ghost use Rattle.knx_model.specs.declared.config.Image.{Image as Compiled};
 ghost use Rattle.knx_model.specs.Meaning.{Installation};
 ghost use Rattle.knx_model.specs.DeviceState.{value_of};
 ghost use Rattle.call_words.specs.Printed.{is_zero, shown, values_shown};
-ghost use Rattle.knx_top.specs.OnLine.{IsImageWhere};
+ghost use Rattle.call_parts.specs.OnLine.{IsImageWhere};
 ghost use Rattle.knx_top.specs.Shown.{IsCase, IsShownIn, IsShownOf, AreShownOf};
 
 use bus_sim::{Device, SimBus};

@@ -6,8 +6,8 @@ ghost use Rattle.line_model.specs.LinkStory.{IsNewLink};
 
 use bus_sim::{Refused, Script};
 use knx_model::{IndAddr, List, MemoryFile, MemoryFiles, MemorySink};
-use knx_top::{Report, SimBus, Status, knx};
-use line_fixed::LineDialer;
+use knx_top::{AddressBus, Report, SimBus, Status, knx};
+use line_fixed::{FixedWatcher, LineDialer};
 use line_model::{HubFault, LogWhat, Open};
 use std::alloc::Global;
 use std::sync::Wait;
@@ -48,7 +48,9 @@ fn download<R: Threads + Wait + Sync>(
     let mut files = MemoryFiles::new(alloc, files);
     let mut sink = MemorySink::new(alloc);
     let mut sim = SimBus::empty(alloc);
+    let mut units = AddressBus::empty(alloc);
     let mut dial = LineDialer::new(line_of(alloc)?, n);
+    let mut nobody: Option<FixedWatcher> = None;
     let mut last = None;
     let status = knx(
         rt,
@@ -57,8 +59,10 @@ fn download<R: Threads + Wait + Sync>(
         &mut files,
         &mut sink,
         &mut sim,
+        &mut units,
         &mut dial,
         &Open,
+        &mut nobody,
         &mut last,
     );
     let runs = match dial.line_back() {

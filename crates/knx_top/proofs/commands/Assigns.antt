@@ -23,19 +23,19 @@ use Rattle.line_model.specs.LinkStory.{Story}
 use Rattle.line_model.specs.Record.{entries}
 use Rattle.line_model.specs.Renews.{AcknowledgesRightly}
 use Rattle.tunnel_link.specs.Rights.{WhereTold}
-use Rattle.knx_top.specs.Ending.{Is, StopsFor, report_in, wanting}
-use Rattle.knx_top.specs.Given.{EndsAs}
-use Rattle.knx_top.specs.Input.{IsRead, OnlyRose, failed, fault_in, first_some, octets_of}
-use Rattle.knx_top.specs.Judged.{read_of, unless_refused}
-use Rattle.knx_top.specs.Stops.{text_refused}
+use Rattle.call_parts.specs.Ending.{Is, StopsFor, report_in, wanting}
+use Rattle.call_parts.specs.Given.{EndsAs}
+use Rattle.call_parts.specs.Input.{IsRead, OnlyRose, failed, fault_in, first_some, octets_of}
+use Rattle.call_parts.specs.Judged.{read_of, unless_refused}
+use Rattle.call_parts.specs.Stops.{text_refused}
 use Rattle.knx_top.specs.commands.Assign.{AssignSimWords, AssignWords, BeginsAs, Gives, GivesDialled, GivesOnBus, GivesOr, GivesOver, GivesSim, Outcome, OverLink, RunsAssign, RunsAssignSim, TellsOutcome, Units, assign_sim_tests, begun_by, judged_units, units_told}
-use Rattle.knx_top.specs.declared.ending.End.{End}
-use Rattle.knx_top.specs.declared.ending.End.TheVariants as ends
-use Rattle.knx_top.specs.declared.given.AssignEnd.{AssignEnd}
-use Rattle.knx_top.specs.declared.given.AssignEnd.TheVariants as given
-use Rattle.knx_top.specs.declared.input.Reading.{Reading}
-use Rattle.knx_top.proofs.Ends.{stop_wants, stopped_report}
-use Rattle.knx_top.proofs.Stops.{does_by, read_step, step, stopped, stops_by, text_step, unless_stopped}
+use Rattle.call_parts.specs.declared.ending.End.{End}
+use Rattle.call_parts.specs.declared.ending.End.TheVariants as ends
+use Rattle.call_parts.specs.declared.given.AssignEnd.{AssignEnd}
+use Rattle.call_parts.specs.declared.given.AssignEnd.TheVariants as given
+use Rattle.call_parts.specs.declared.input.Reading.{Reading}
+use Rattle.call_parts.proofs.Ends.{stop_wants, stopped_report}
+use Rattle.call_parts.proofs.Stops.{does_by, read_step, step, stopped, stops_by, text_step, unless_stopped}
 
 -- ---- where memory is wanting to tell it
 

@@ -9,16 +9,16 @@ use Rattle.knx_model.specs.LeastLine.{refused_from, said_from, text_reading}
 use Rattle.knx_model.specs.Rules.{broken_from, first_broken}
 use Rattle.knx_model.specs.ScriptText.{strangers}
 use Rattle.knx_model.specs.declared.counts.Counts.{Counts}
-use Rattle.knx_top.proofs.Ends.{report_wants}
+use Rattle.call_parts.proofs.Ends.{report_wants}
 use Rattle.knx_top.proofs.commands.Sims.{run_wants}
 use Rattle.knx_top.specs.Begun.{IsOrder, OrderFor}
-use Rattle.knx_top.specs.Ending.{Is, report_in, wanting}
+use Rattle.call_parts.specs.Ending.{Is, report_in, wanting}
 use Rattle.knx_top.specs.Ran.{Commission, Left}
 use Rattle.knx_top.specs.commands.Big.{BigWords, RunsMade, commission_made, judged_made, made, summed}
 use Rattle.knx_top.specs.commands.Sim.{Runs}
 use Rattle.knx_top.specs.declared.commands.sim.judge.Order.{Order}
-use Rattle.knx_top.specs.declared.ending.End.{End}
-use Rattle.knx_top.specs.declared.ending.End.TheVariants as ends
+use Rattle.call_parts.specs.declared.ending.End.{End}
+use Rattle.call_parts.specs.declared.ending.End.TheVariants as ends
 
 -- ---- nothing is refused
 

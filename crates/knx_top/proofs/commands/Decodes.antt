@@ -1,11 +1,11 @@
 -- `decode`, and what is written of it.
-use Rattle.knx_top.specs.declared.ending.End.{End}
-use Rattle.knx_top.specs.Ending.{Is, wanting, TellsOf, report_in}
+use Rattle.call_parts.specs.declared.ending.End.{End}
+use Rattle.call_parts.specs.Ending.{Is, wanting, TellsOf, report_in}
 use Rattle.frame_text.specs.FrameText.{IsFrameText, hex_word}
 use Rattle.call_words.specs.declared.stop.Stop.{Stop}
 use Rattle.std.proofs.Common.{◌≡◌, inl, inr, sym, ◌⊎◌, Err, List, None, Ok, Result, ℕ, subst}
-use Rattle.knx_top.proofs.Ends.{stop_wants}
-use Rattle.knx_top.proofs.commands.Projects.{text_wants, text_no_run, stop_no_run}
+use Rattle.call_parts.proofs.Ends.{stop_wants}
+use Rattle.call_parts.proofs.Projects.{text_wants, text_no_run, stop_no_run}
 use Rattle.knx_top.specs.commands.Decode.{TellsOfFrame, octets_or_usage}
 
 word_wants : (found : Result (List ℕ) Stop) (end : End) → TellsOf IsFrameText found end → TellsOf IsFrameText found (wanting end)

@@ -1,26 +1,26 @@
 -- `download`: its tests, what it dials, and what is written of it.
 use Rattle.std.proofs.Common.{refl, Err, List, Ok, Option, Result, ◌≡◌, ◌≢◌, ◌⊎◌, ◌∙◌, ◌∷◌, true, false, sym, ap, subst, inl, inr, []}
 use Rattle.line_model.specs.Dialled.{DialerNow}
-use Rattle.knx_top.specs.declared.ending.End.{End}
+use Rattle.call_parts.specs.declared.ending.End.{End}
 use Rattle.knx_model.specs.Outside.{FilesNow}
 use Rattle.knx_model.specs.Meaning.{Installation}
-use Rattle.knx_top.specs.Ending.{Is, report_in, wanting}
+use Rattle.call_parts.specs.Ending.{Is, report_in, wanting}
 use Rattle.call_words.specs.declared.job_word.JobWord.{JobWord}
-use Rattle.knx_top.specs.Input.{OnlyRose}
-use Rattle.knx_top.specs.declared.project.ProjectTexts.{ProjectTexts}
+use Rattle.call_parts.specs.Input.{OnlyRose}
+use Rattle.call_parts.specs.declared.project.ProjectTexts.{ProjectTexts}
 use Rattle.knx_top.specs.declared.commands.download.Ready.{Ready}
 use Rattle.line_model.specs.declared.log.Report.{Report}
 use Rattle.call_words.specs.declared.stop.Stop.{Stop}
-use Rattle.knx_top.proofs.Stops.{does_by, failed_step, stops_by, unless_stopped, passed, step, stopped}
-use Rattle.knx_top.specs.Stops.{is_known, unknown_job, unless_known}
-use Rattle.knx_top.specs.Judged.{known_jobs}
-use Rattle.knx_top.proofs.commands.Projects.{judged_project_is}
+use Rattle.call_parts.proofs.Stops.{does_by, failed_step, stops_by, unless_stopped, passed, step, stopped}
+use Rattle.call_parts.specs.Stops.{is_known, unknown_job, unless_known}
+use Rattle.call_parts.specs.Judged.{known_jobs}
+use Rattle.call_parts.proofs.Projects.{judged_project_is}
 use Rattle.std.specs.List.{list_all}
-use Rattle.knx_top.proofs.Ends.{report_wants, stop_wants}
+use Rattle.call_parts.proofs.Ends.{report_wants, stop_wants}
 use Rattle.call_words.specs.declared.stop.Stop.TheVariants as stop
-use Rattle.knx_top.specs.declared.ending.End.TheVariants as ends
+use Rattle.call_parts.specs.declared.ending.End.TheVariants as ends
 use Rattle.knx_top.specs.commands.Download.{Dials, DialsOr, RunsDialled, download_tests, download_told, judged_download, project_named, DownloadWords, IsReady, IsReadyFor, ReadyFor, Download, download_of, with_project}
-use Rattle.knx_top.specs.commands.Project.{ProjectWords, ProjectIsRead, failed_of_project, project_tests, project_told, judged_project}
+use Rattle.call_parts.specs.Project.{ProjectWords, ProjectIsRead, failed_of_project, project_tests, project_told, judged_project}
 
 -- ---- the tests
 

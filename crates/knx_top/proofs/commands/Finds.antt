@@ -6,12 +6,12 @@ use Rattle.discovery_ends.specs.Looking.{LookedOver, NotReached}
 use Rattle.line_model.specs.Dialled.{Address, DialerNow}
 use Rattle.line_model.specs.declared.outside.link.LinkFault.{LinkFault}
 use Rattle.knx_top.specs.Dialled.{FailsToOpen}
-use Rattle.knx_top.specs.Ending.{Is, report_in, wanting}
+use Rattle.call_parts.specs.Ending.{Is, report_in, wanting}
 use Rattle.knx_top.specs.commands.Find.{EndsFor, Finds, FindWords, RunsFind, SearchesTo}
-use Rattle.knx_top.specs.declared.ending.End.{End}
-use Rattle.knx_top.specs.declared.ending.End.TheVariants as ends
-use Rattle.knx_top.specs.declared.searched.SearchEnd.{SearchEnd}
-use Rattle.knx_top.specs.declared.searched.SearchEnd.TheVariants as search
+use Rattle.call_parts.specs.declared.ending.End.{End}
+use Rattle.call_parts.specs.declared.ending.End.TheVariants as ends
+use Rattle.call_parts.specs.declared.searched.SearchEnd.{SearchEnd}
+use Rattle.call_parts.specs.declared.searched.SearchEnd.TheVariants as search
 
 -- ---- what was dialled and searched over
 

@@ -3,31 +3,31 @@ use Rattle.std.proofs.Common.{refl, Err, List, None, Ok, Option, Result, Some, â
 use Rattle.knx_top.specs.Begun.{BeginsLine}
 use Rattle.bus_sim.specs.Loaded.{BusNow}
 use Rattle.line_model.specs.Dialled.{DialerNow}
-use Rattle.knx_top.specs.declared.ending.End.{End}
+use Rattle.call_parts.specs.declared.ending.End.{End}
 use Rattle.knx_model.specs.Outside.{FileContent, FilesNow}
-use Rattle.knx_top.specs.Input.{OnlyRose, fault_in, first_some, goes_on, octets_of, failed}
+use Rattle.call_parts.specs.Input.{OnlyRose, fault_in, first_some, goes_on, octets_of, failed}
 use Rattle.knx_top.specs.declared.commands.gateway.GatewayTexts.{GatewayTexts}
 use Rattle.knx_top.specs.declared.commands.gateway.Ready.{Ready}
 use Rattle.line_model.specs.StartOf.{tunnel_address}
 use Rattle.knx_model.specs.Meaning.{Installation}
-use Rattle.knx_top.specs.Ending.{Is, StopsFor, report_in, wanting, untold}
+use Rattle.call_parts.specs.Ending.{Is, StopsFor, report_in, wanting, untold}
 use Rattle.knx_model.specs.declared.catalogue.model.NamedModel.{NamedModel}
 use Rattle.line_model.specs.PortStory.{PortStory}
 use Rattle.knx_model.specs.declared.script.ScriptLine.{ScriptLine}
-use Rattle.knx_top.specs.declared.ending.ServiceEnd.{ServiceEnd}
+use Rattle.call_parts.specs.declared.ending.ServiceEnd.{ServiceEnd}
 use Rattle.call_words.specs.declared.stop.Stop.{Stop}
-use Rattle.knx_top.proofs.Stops.{broken_step, does_by, failed_step, models_step, read_step, stops_by, text_step, unless_stopped, passed, step, stopped}
-use Rattle.knx_top.specs.Stops.{catalogue_refused, given_or, models_in, rule_broken, stranger_named, text_refused}
+use Rattle.call_parts.proofs.Stops.{broken_step, does_by, failed_step, models_step, read_step, stops_by, text_step, unless_stopped, passed, step, stopped}
+use Rattle.call_parts.specs.Stops.{catalogue_refused, given_or, models_in, rule_broken, stranger_named, text_refused}
 use Rattle.knx_model.specs.Rules.{first_broken}
 use Rattle.knx_model.specs.ScriptText.{first_stranger, script_reading}
-use Rattle.knx_top.specs.Judged.{models_of, read_of, unless_refused, unless_strange, sound}
-use Rattle.knx_top.specs.OnLine.{on_bus}
-use Rattle.knx_top.proofs.Counts.{rose_then, tail_of, alone}
-use Rattle.knx_top.proofs.Ends.{stop_wants, stopped_report}
+use Rattle.call_parts.specs.Judged.{models_of, read_of, unless_refused, unless_strange, sound}
+use Rattle.call_parts.specs.OnLine.{on_bus}
+use Rattle.call_parts.proofs.Counts.{rose_then, tail_of, alone}
+use Rattle.call_parts.proofs.Ends.{stop_wants, stopped_report}
 use Rattle.call_words.specs.declared.input_file.InputFile.TheVariants as file
 use Rattle.call_words.specs.declared.stop.Stop.TheVariants as stop
-use Rattle.knx_top.specs.declared.ending.End.TheVariants as ends
-use Rattle.knx_top.specs.declared.ending.ServiceEnd.TheVariants as over
+use Rattle.call_parts.specs.declared.ending.End.TheVariants as ends
+use Rattle.call_parts.specs.declared.ending.ServiceEnd.TheVariants as over
 use Rattle.knx_top.specs.commands.Gateway.{GatewayIsRead, failed_of_gateway, GatewayWords, IsLineOf, LineFor, RunsGateway, Serves, ServesOr, Service, Serving, gateway_tests, gateway_told, judged_gateway, after_catalogue, after_old, after_script, with_before, with_lines, with_models, with_old, service}
 use Rattle.knx_model.specs.Statements.{reading}
 

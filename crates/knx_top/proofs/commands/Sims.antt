@@ -1,33 +1,33 @@
 -- `sim`: its tests, the counts of faults over its reads, its run, and what is written of it.
 use Rattle.std.proofs.Common.{refl, Err, List, None, Ok, Option, Result, Some, ℕ, ◌≡◌, ◌≢◌, ◌⊎◌, ◌∙◌, ◌∷◌, false, sym, ap, subst, inl, inr, []}
 use Rattle.bus_sim.specs.Loaded.{BusNow}
-use Rattle.knx_top.specs.Stops.{catalogue_refused, given_or, is_known, models_in, rule_broken, stranger_named, text_refused, unless_known}
-use Rattle.knx_top.specs.declared.ending.End.{End}
+use Rattle.call_parts.specs.Stops.{catalogue_refused, given_or, is_known, models_in, rule_broken, stranger_named, text_refused, unless_known}
+use Rattle.call_parts.specs.declared.ending.End.{End}
 use Rattle.knx_model.specs.Outside.{FileContent, FilesNow}
 use Rattle.knx_model.specs.Meaning.{Installation}
-use Rattle.knx_top.specs.Ending.{Is, report_in, wanting}
+use Rattle.call_parts.specs.Ending.{Is, report_in, wanting}
 use Rattle.knx_top.specs.Begun.{IsOrder, OrderFor}
 use Rattle.knx_model.specs.declared.catalogue.model.NamedModel.{NamedModel}
-use Rattle.knx_top.specs.Input.{OnlyRose, fault_in, first_some, goes_on, octets_of, failed}
+use Rattle.call_parts.specs.Input.{OnlyRose, fault_in, first_some, goes_on, octets_of, failed}
 use Rattle.knx_top.specs.declared.commands.sim.judge.Order.{Order}
 use Rattle.knx_model.specs.declared.script.ScriptLine.{ScriptLine}
 use Rattle.knx_top.specs.declared.commands.sim.SimTexts.{SimTexts}
 use Rattle.call_words.specs.declared.job_word.JobWord.{JobWord}
 use Rattle.call_words.specs.declared.stop.Stop.{Stop}
-use Rattle.knx_top.specs.Judged.{known_jobs, models_of, read_of, unless_refused, unless_strange, sound}
-use Rattle.knx_top.proofs.Stops.{broken_step, does_by, failed_step, models_step, read_step, stops_by, text_step, unless_stopped, passed, step, stopped}
+use Rattle.call_parts.specs.Judged.{known_jobs, models_of, read_of, unless_refused, unless_strange, sound}
+use Rattle.call_parts.proofs.Stops.{broken_step, does_by, failed_step, models_step, read_step, stops_by, text_step, unless_stopped, passed, step, stopped}
 use Rattle.knx_model.specs.Rules.{first_broken}
 use Rattle.knx_model.specs.ScriptText.{first_stranger, script_reading}
 use Rattle.std.specs.List.{list_all}
-use Rattle.knx_top.specs.OnLine.{on_bus}
-use Rattle.knx_top.proofs.Ends.{report_wants, stop_wants}
-use Rattle.knx_top.proofs.Counts.{rose_then, tail_of, alone}
+use Rattle.call_parts.specs.OnLine.{on_bus}
+use Rattle.call_parts.proofs.Ends.{report_wants, stop_wants}
+use Rattle.call_parts.proofs.Counts.{rose_then, tail_of, alone}
 use Rattle.call_words.specs.declared.input_file.InputFile.TheVariants as file
 use Rattle.call_words.specs.declared.stop.Stop.TheVariants as stop
-use Rattle.knx_top.specs.declared.ending.End.TheVariants as ends
+use Rattle.call_parts.specs.declared.ending.End.TheVariants as ends
 use Rattle.knx_top.specs.commands.Sim.{Comes, Runs, commission_told, sim_tests, RunsScript, SimIsRead, failed_of_sim, SimWords, after_new, with_known, with_new, after_catalogue, after_old, after_script, with_before, with_lines, with_models, with_old, with_project, judged}
 use Rattle.knx_top.specs.Ran.{Commission, commission_of, Left}
-use Rattle.knx_top.specs.Options.{SimOptions}
+use Rattle.call_parts.specs.Options.{SimOptions}
 use Rattle.knx_model.specs.Statements.{reading}
 
 -- ---- the tests

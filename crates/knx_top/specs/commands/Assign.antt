@@ -28,19 +28,19 @@ use Rattle.line_model.specs.Record.{entries}
 use Rattle.line_model.specs.Renews.{AcknowledgesRightly}
 use Rattle.tunnel_link.specs.Rights.{WhereTold}
 use Rattle.knx_top.specs.Dialled.{FailsToOpen}
-use Rattle.knx_top.specs.Ending.{StopsFor}
-use Rattle.knx_top.specs.Given.{EndsAs}
-use Rattle.knx_top.specs.Host.{address_value}
-use Rattle.knx_top.specs.Input.{IsRead, OnlyRose, failed, fault_in, first_some, octets_of}
-use Rattle.knx_top.specs.Judged.{ComesTo, read_of, unless_refused}
-use Rattle.knx_top.specs.Names.{address_of}
-use Rattle.knx_top.specs.Stops.{given_or, text_refused}
+use Rattle.call_parts.specs.Ending.{StopsFor}
+use Rattle.call_parts.specs.Given.{EndsAs}
+use Rattle.call_parts.specs.Host.{address_value}
+use Rattle.call_parts.specs.Input.{IsRead, OnlyRose, failed, fault_in, first_some, octets_of}
+use Rattle.call_parts.specs.Judged.{ComesTo, read_of, unless_refused}
+use Rattle.call_parts.specs.Names.{address_of}
+use Rattle.call_parts.specs.Stops.{given_or, text_refused}
 use Rattle.knx_top.specs.declared.commands.assign.AssignNames.{AssignNames}
 use Rattle.knx_top.specs.declared.commands.assign.AssignSimNames.{AssignSimNames}
-use Rattle.knx_top.specs.declared.ending.End.{End}
-use Rattle.knx_top.specs.declared.ending.End.TheVariants as ends
-use Rattle.knx_top.specs.declared.given.AssignEnd.{AssignEnd}
-use Rattle.knx_top.specs.declared.input.Reading.{Reading}
+use Rattle.call_parts.specs.declared.ending.End.{End}
+use Rattle.call_parts.specs.declared.ending.End.TheVariants as ends
+use Rattle.call_parts.specs.declared.given.AssignEnd.{AssignEnd}
+use Rattle.call_parts.specs.declared.input.Reading.{Reading}
 
 -- ADDR IA
 pub record AssignWords : Type 0 where

@@ -8,12 +8,12 @@ use Rattle.knx_model.specs.Counts.{counts_of}
 use Rattle.knx_model.specs.Meaning.{Installation}
 use Rattle.knx_model.specs.Numbers.{numeral, up_to}
 use Rattle.knx_model.specs.declared.counts.Counts.{Counts}
-use Rattle.knx_top.specs.Ending.{report_in}
-use Rattle.knx_top.specs.Options.{from_1_to, no_options}
+use Rattle.call_parts.specs.Ending.{report_in}
+use Rattle.call_parts.specs.Options.{from_1_to, no_options}
 use Rattle.knx_top.specs.Ran.{Commission, Left, commission_of}
 use Rattle.knx_top.specs.commands.Sim.{Runs, with_new}
-use Rattle.knx_top.specs.declared.ending.End.{End}
-use Rattle.knx_top.specs.declared.ending.End.TheVariants as ends
+use Rattle.call_parts.specs.declared.ending.End.{End}
+use Rattle.call_parts.specs.declared.ending.End.TheVariants as ends
 use Rattle.std.specs.Option.{option_map}
 
 -- N START

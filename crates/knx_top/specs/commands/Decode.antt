@@ -1,9 +1,9 @@
 -- `decode HEX`: the frame of the octets that a word of hexadecimal digits writes.
 use Rattle.std.specs.Prelude.{ℕ, Err, List, None, Ok, Option, Result, Some, ◌∷◌, []}
-use Rattle.knx_top.specs.declared.ending.End.{End}
+use Rattle.call_parts.specs.declared.ending.End.{End}
 use Rattle.frame_text.specs.FrameText.{IsFrameText, hex_word}
 use Rattle.call_words.specs.declared.stop.Stop.{Stop}
-use Rattle.knx_top.specs.Ending.{TellsOf}
+use Rattle.call_parts.specs.Ending.{TellsOf}
 use Rattle.call_words.specs.declared.stop.Stop.TheVariants as stop
 
 abbrev pub decode_word : List (List ℕ) → Option (List ℕ)

@@ -4,10 +4,10 @@
 use Rattle.std.specs.Prelude.{ℕ, Err, List, None, Ok, Option, Result, Some, option_to_list, ◌≡◌, ◌≤◌, ◌++◌, ◌∷◌, map, length, [], ◌<◌, ◌^◌, option_and_then}
 use Rattle.line_model.specs.Dialled.{Address, DialerNow, Tells}
 use Rattle.std.specs.List.{AllByRecursion, list_all}
-use Rattle.knx_top.specs.Jobs.{AreJobs, ArePlanned, seen_job}
-use Rattle.knx_top.specs.Judged.{ComesTo, known_jobs}
+use Rattle.call_parts.specs.Jobs.{AreJobs, ArePlanned, seen_job}
+use Rattle.call_parts.specs.Judged.{ComesTo, known_jobs}
 use Rattle.knx_top.specs.declared.commands.download.DownloadNames.{DownloadNames}
-use Rattle.knx_top.specs.declared.ending.End.{End}
+use Rattle.call_parts.specs.declared.ending.End.{End}
 use Rattle.knx_top.specs.Dialled.{FailsToOpen, HasItsCause, IsToldOver, MeansOver}
 use Rattle.knx_model.specs.Outside.{FilesNow, one_more}
 use Rattle.line_model.specs.declared.group.GroupTurn.{GroupTurn}
@@ -15,20 +15,20 @@ use Rattle.knx_model.specs.Meaning.{Installation}
 use Rattle.line_model.specs.Headline.{IsGoodJob}
 use Rattle.line_model.specs.Log.{Job}
 use Rattle.call_words.specs.declared.job_word.JobWord.{JobWord}
-use Rattle.knx_top.specs.Input.{OnlyRose, first_some}
-use Rattle.knx_top.specs.commands.Project.{ProjectIsRead, ProjectWords, failed_of_project, judged_project, project_tests, project_told}
-use Rattle.knx_top.specs.declared.project.ProjectTexts.{ProjectTexts}
+use Rattle.call_parts.specs.Input.{OnlyRose, first_some}
+use Rattle.call_parts.specs.Project.{ProjectIsRead, ProjectWords, failed_of_project, judged_project, project_tests, project_told}
+use Rattle.call_parts.specs.declared.project.ProjectTexts.{ProjectTexts}
 use Rattle.knx_top.specs.declared.commands.download.Ready.{Ready}
 use Rattle.line_model.specs.declared.log.Report.{Report}
-use Rattle.knx_top.specs.Options.{SimOptions, sim_options, workers_of}
+use Rattle.call_parts.specs.Options.{SimOptions, sim_options, workers_of}
 use Rattle.call_words.specs.declared.stop.Stop.{Stop}
-use Rattle.knx_top.specs.Ending.{StopsFor, report_in}
-use Rattle.knx_top.specs.Names.{address_of, options_of}
-use Rattle.knx_top.specs.Host.{address_value}
-use Rattle.knx_top.specs.Stops.{is_known, unless_known}
+use Rattle.call_parts.specs.Ending.{StopsFor, report_in}
+use Rattle.call_parts.specs.Names.{address_of, options_of}
+use Rattle.call_parts.specs.Host.{address_value}
+use Rattle.call_parts.specs.Stops.{is_known, unless_known}
 use Rattle.knx_top.specs.Ran.{log_in}
 use Rattle.call_words.specs.declared.stop.Stop.TheVariants as stop
-use Rattle.knx_top.specs.declared.ending.End.TheVariants as ends
+use Rattle.call_parts.specs.declared.ending.End.TheVariants as ends
 use Rattle.std.specs.Option.{option_map}
 use Rattle.knx_model.specs.Answers.{◌>>=◌}
 

@@ -12,13 +12,13 @@ use Rattle.line_model.specs.Dialled.{Address, DialerNow}
 use Rattle.line_model.specs.declared.outside.link.LinkFault.{LinkFault}
 use Rattle.line_model.specs.declared.outside.link.LinkFault.TheVariants as fault
 use Rattle.knx_top.specs.Dialled.{FailsToOpen}
-use Rattle.knx_top.specs.Host.{address_value}
-use Rattle.knx_top.specs.Names.{address_of}
+use Rattle.call_parts.specs.Host.{address_value}
+use Rattle.call_parts.specs.Names.{address_of}
 use Rattle.knx_top.specs.declared.commands.find.FindNames.{FindNames}
-use Rattle.knx_top.specs.declared.ending.End.{End}
-use Rattle.knx_top.specs.declared.ending.End.TheVariants as ends
-use Rattle.knx_top.specs.declared.searched.SearchEnd.{SearchEnd}
-use Rattle.knx_top.specs.declared.searched.SearchEnd.TheVariants as search
+use Rattle.call_parts.specs.declared.ending.End.{End}
+use Rattle.call_parts.specs.declared.ending.End.TheVariants as ends
+use Rattle.call_parts.specs.declared.searched.SearchEnd.{SearchEnd}
+use Rattle.call_parts.specs.declared.searched.SearchEnd.TheVariants as search
 
 -- ADDR [describe]
 pub record FindWords : Type 0 where

@@ -8,8 +8,8 @@ use Rattle.knx_top.specs.Begun.{BeginsLine}
 use Rattle.bus_sim.specs.Serving.{BreaksOff, FailsAt, ServedSo}
 use Rattle.bus_sim.specs.Loaded.{BusNow}
 use Rattle.line_model.specs.StartOf.{BusOf, tunnel_address}
-use Rattle.knx_top.specs.Judged.{ComesTo, models_of, read_of, unless_refused, unless_strange, installed, sound}
-use Rattle.knx_top.specs.declared.ending.End.{End}
+use Rattle.call_parts.specs.Judged.{ComesTo, models_of, read_of, unless_refused, unless_strange, installed, sound}
+use Rattle.call_parts.specs.declared.ending.End.{End}
 use Rattle.knx_top.specs.Dialled.{FailsToOpen}
 use Rattle.knx_model.specs.Outside.{FileContent, FilesNow, one_more}
 use Rattle.line_model.specs.Follows.{Follows}
@@ -18,32 +18,32 @@ use Rattle.knx_top.specs.declared.commands.gateway.GatewayTexts.{GatewayTexts}
 use Rattle.knx_top.specs.declared.commands.gateway.Ready.{Ready}
 use Rattle.discovery_ends.specs.Answering.{HasNoRequest, shown_story}
 use Rattle.discovery_ends.specs.Naming.{named_story}
-use Rattle.knx_top.specs.Identity.{about_gateway, own_endpoint}
+use Rattle.call_parts.specs.Identity.{about_gateway, own_endpoint}
 use Rattle.knx_model.specs.Meaning.{Installation}
 use Rattle.line_model.specs.Fresh.{IsFresh}
 use Rattle.line_model.specs.Legal.{IsLegal}
 use Rattle.line_model.specs.PortStory.{IsNewPort, PortStory}
-use Rattle.knx_top.specs.Input.{IsRead, OnlyRose, fault_in, first_some, goes_on, octets_of, failed}
+use Rattle.call_parts.specs.Input.{IsRead, OnlyRose, fault_in, first_some, goes_on, octets_of, failed}
 use Rattle.knx_model.specs.declared.catalogue.model.NamedModel.{NamedModel}
 use Rattle.line_model.specs.declared.outside.port.PortFault.{PortFault}
-use Rattle.knx_top.specs.Fronts.{Row, read_by}
+use Rattle.call_parts.specs.Fronts.{Row, read_by}
 use Rattle.bus_sim.specs.RunNow.{RunNow, start}
 use Rattle.knx_model.specs.declared.script.ScriptLine.{ScriptLine}
 use Rattle.bus_sim.specs.declared.serve.Served.{Served}
-use Rattle.knx_top.specs.declared.ending.ServiceEnd.{ServiceEnd}
-use Rattle.knx_top.specs.Options.{SimOptions, from_1_to, project_options}
+use Rattle.call_parts.specs.declared.ending.ServiceEnd.{ServiceEnd}
+use Rattle.call_parts.specs.Options.{SimOptions, from_1_to, project_options}
 use Rattle.knx_model.specs.declared.project.Statement.{Statement}
 use Rattle.call_words.specs.declared.stop.Stop.{Stop}
-use Rattle.knx_top.specs.Ending.{StopsFor}
-use Rattle.knx_top.specs.Names.{address_of, named}
-use Rattle.knx_top.specs.Host.{address_value}
-use Rattle.knx_top.specs.Stops.{catalogue_refused, lines_in, project_in, rule_broken, stranger_named, text_refused}
+use Rattle.call_parts.specs.Ending.{StopsFor}
+use Rattle.call_parts.specs.Names.{address_of, named}
+use Rattle.call_parts.specs.Host.{address_value}
+use Rattle.call_parts.specs.Stops.{catalogue_refused, lines_in, project_in, rule_broken, stranger_named, text_refused}
 use Rattle.knx_model.specs.ScriptText.{first_stranger, script_reading}
-use Rattle.knx_top.specs.OnLine.{on_bus}
+use Rattle.call_parts.specs.OnLine.{on_bus}
 use Rattle.line_model.specs.Lines.{script_of}
 use Rattle.call_words.specs.declared.stop.Stop.TheVariants as stop
-use Rattle.knx_top.specs.declared.ending.End.TheVariants as ends
-use Rattle.knx_top.specs.declared.ending.ServiceEnd.TheVariants as over
+use Rattle.call_parts.specs.declared.ending.End.TheVariants as ends
+use Rattle.call_parts.specs.declared.ending.ServiceEnd.TheVariants as over
 use Rattle.bus_sim.specs.declared.serve.Served.TheVariants as served
 use Rattle.call_words.specs.declared.input_file.InputFile.TheVariants as file
 use Rattle.line_model.specs.Tunnel as tunnel

@@ -2,33 +2,33 @@
 use Rattle.std.specs.Prelude.{ℕ, Bool, List, None, Ok, Option, Result, Some, option_to_list, ◌≡◌, ◌++◌, ◌∷◌, length, true, []}
 use Rattle.knx_top.specs.Shown.{AreShown, AreShownOf}
 use Rattle.bus_sim.specs.Loaded.{BusNow}
-use Rattle.knx_top.specs.Judged.{ComesTo, known_jobs, models_of, read_of, unless_refused, unless_strange, sound, installed}
+use Rattle.call_parts.specs.Judged.{ComesTo, known_jobs, models_of, read_of, unless_refused, unless_strange, sound, installed}
 use Rattle.knx_top.specs.Ran.{Commission, Left, Ran, commission_of}
-use Rattle.knx_top.specs.declared.ending.End.{End}
+use Rattle.call_parts.specs.declared.ending.End.{End}
 use Rattle.knx_model.specs.Outside.{FileContent, FilesNow}
 use Rattle.knx_model.specs.declared.config.Image.{Image}
 use Rattle.knx_model.specs.declared.address.IndAddr.{IndAddr}
 use Rattle.knx_model.specs.Meaning.{Installation}
-use Rattle.knx_top.specs.Input.{IsRead, OnlyRose, fault_in, first_some, goes_on, octets_of, failed}
+use Rattle.call_parts.specs.Input.{IsRead, OnlyRose, fault_in, first_some, goes_on, octets_of, failed}
 use Rattle.call_words.specs.declared.job_word.JobWord.{JobWord}
 use Rattle.knx_model.specs.declared.catalogue.model.NamedModel.{NamedModel}
 use Rattle.line_model.specs.declared.log.Report.{Report}
-use Rattle.knx_top.specs.declared.ending.Reported.{Reported}
+use Rattle.call_parts.specs.declared.ending.Reported.{Reported}
 use Rattle.bus_sim.specs.RunNow.{RunNow, world}
 use Rattle.knx_model.specs.declared.script.ScriptLine.{ScriptLine}
 use Rattle.knx_top.specs.declared.commands.sim.SimNames.{SimNames}
-use Rattle.knx_top.specs.Options.{SimOptions, sim_options}
+use Rattle.call_parts.specs.Options.{SimOptions, sim_options}
 use Rattle.knx_top.specs.declared.commands.sim.SimTexts.{SimTexts}
 use Rattle.knx_model.specs.declared.project.Statement.{Statement}
 use Rattle.call_words.specs.declared.stop.Stop.{Stop}
-use Rattle.knx_top.specs.Ending.{StopsFor, report_in}
-use Rattle.knx_top.specs.Stops.{catalogue_refused, is_known, lines_in, project_in, rule_broken, stranger_named, text_refused, unless_known}
+use Rattle.call_parts.specs.Ending.{StopsFor, report_in}
+use Rattle.call_parts.specs.Stops.{catalogue_refused, is_known, lines_in, project_in, rule_broken, stranger_named, text_refused, unless_known}
 use Rattle.knx_model.specs.ScriptText.{first_stranger, script_reading}
 use Rattle.std.specs.List.{list_all}
-use Rattle.knx_top.specs.OnLine.{on_bus}
-use Rattle.knx_top.specs.Names.{options_of}
+use Rattle.call_parts.specs.OnLine.{on_bus}
+use Rattle.call_parts.specs.Names.{options_of}
 use Rattle.call_words.specs.declared.stop.Stop.TheVariants as stop
-use Rattle.knx_top.specs.declared.ending.End.TheVariants as ends
+use Rattle.call_parts.specs.declared.ending.End.TheVariants as ends
 use Rattle.call_words.specs.declared.input_file.InputFile.TheVariants as file
 use Rattle.knx_model.specs.Statements.{reading}
 use Rattle.std.specs.Option.{option_map}

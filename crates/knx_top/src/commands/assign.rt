@@ -8,18 +8,16 @@ ghost use Rattle.call_words.specs.declared.input_file.InputFile.TheVariants.{Scr
 ghost use Rattle.call_words.specs.declared.stop.Stop.TheVariants.{NoMemory as OutOfMemory};
 ghost use Rattle.line_model.specs.Dialled.{TakesBack};
 ghost use Rattle.line_model.specs.LinkStory.{IsNewLink};
-ghost use Rattle.knx_top.specs.Ending.{Is};
-ghost use Rattle.knx_top.specs.Judged.{Gives as GivesAs, unless_refused};
+ghost use Rattle.call_parts.specs.Ending.{Is};
+ghost use Rattle.call_parts.specs.Judged.{Gives as GivesAs, unless_refused};
 ghost use Rattle.knx_top.specs.commands.Assign.{BeginsAs, GivesOr, GivesSim, OverLink, RunsAssign, RunsAssignSim, TellsOutcome, Units, assign_sim_words, assign_sim_words_of, assign_words, assign_words_of, judged_units, tunnel_beside};
 
-use crate::ending::End;
-use crate::given::AssignEnd;
-use crate::host::{GatewayAddress, address_in};
-use crate::input::{Reading, read_named};
-use crate::project::{read_of, refusal};
 use address_commission::{Plain, assign};
 use address_sim::{AddressBus, Unit, UnitScript, what_stays_is_all_that_it_began_with};
 use address_text::read_units;
+use call_parts::{
+    AssignEnd, End, GatewayAddress, Reading, address_in, read_named, read_of, refusal,
+};
 use call_words::{InputFile, Stop};
 use knx_model::{Files, IndAddr, List, NoMemory, ind_of};
 use line_model::Dialer;

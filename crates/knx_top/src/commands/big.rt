@@ -4,7 +4,7 @@ ghost use Rattle.std.specs.Prelude.{◌≡◌, ◌≢◌, ◌≤◌, Err, IfErr,
 ghost use Rattle.call_words.specs.declared.stop.Stop.TheVariants.{NoMemory as OutOfMemory};
 ghost use Rattle.knx_model.specs.Counts.{counts_of};
 ghost use Rattle.knx_top.specs.Begun.{OrderFor};
-ghost use Rattle.knx_top.specs.Ending.{Is, report_in};
+ghost use Rattle.call_parts.specs.Ending.{Is, report_in};
 ghost use Rattle.knx_top.specs.Ran.{FaultsOfLine};
 ghost use Rattle.knx_top.specs.Watched.{TellsWatcher};
 ghost use Rattle.line_model.specs.Watched.{watch_in};
@@ -12,11 +12,8 @@ ghost use Rattle.knx_top.specs.commands.Big.{RunsMade, big_words, judged_made, m
 
 use crate::commands::sim::judge::{Order, judge_behind};
 use crate::commands::sim::run::run;
-use crate::ending::End;
-use crate::host::are_digits;
-use crate::options::{SimOptions, from_1_to};
-use crate::project::sound_in;
 use bus_sim::SimBus;
+use call_parts::{End, SimOptions, are_digits, from_1_to, sound_in};
 use call_words::{InputFile, Stop};
 use knx_gen::laws::each_project_is_checked;
 use knx_gen::{GroupNames, project_from};

@@ -3,11 +3,11 @@
 ghost use Rattle.std.specs.Prelude.{◌≡◌, map, string_bytes};
 ghost use Rattle.std.specs.Option.{option_map};
 ghost use Rattle.frame_text.specs.FrameText.{IsFrameText, hex_word};
-ghost use Rattle.knx_top.specs.Ending.{Is, TellsOf, end_told};
-ghost use Rattle.knx_top.specs.Names.{the_word};
+ghost use Rattle.call_parts.specs.Ending.{Is, TellsOf, end_told};
+ghost use Rattle.call_parts.specs.Names.{the_word};
 ghost use Rattle.knx_top.specs.commands.Decode.{TellsOfFrame, decode_word, octets_or_usage};
 
-use crate::ending::End;
+use call_parts::End;
 use call_words::Stop;
 use frame_text::{frame_text, hex_in};
 use knx_model::Octets;

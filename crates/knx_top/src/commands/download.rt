@@ -8,22 +8,20 @@ ghost use Rattle.line_model.specs.Headline.{IsGoodJob};
 ghost use Rattle.line_model.specs.LinkStory.{IsNewLink};
 ghost use Rattle.line_model.specs.Watched.{watch_in};
 ghost use Rattle.knx_top.specs.Dialled.{HasItsCause, IsToldOver};
-ghost use Rattle.knx_top.specs.Ending.{Is, report_in};
-ghost use Rattle.knx_top.specs.Jobs.{seen_job};
-ghost use Rattle.knx_top.specs.Names.{address_of, options_of};
-ghost use Rattle.knx_top.specs.Options.{most_jobs, workers_of};
+ghost use Rattle.call_parts.specs.Ending.{Is, report_in};
+ghost use Rattle.call_parts.specs.Jobs.{seen_job};
+ghost use Rattle.call_parts.specs.Names.{address_of, options_of};
+ghost use Rattle.call_parts.specs.Options.{most_jobs, workers_of};
 ghost use Rattle.knx_top.specs.Watched.{TellsWatcher};
 ghost use Rattle.knx_top.specs.commands.Download.{Dials, DialsOr, Download, IsReady, IsReadyFor, ReadyFor, RunsDialled, download_words, download_words_of, files_of_download, judged_download, project_named, with_project};
-ghost use Rattle.knx_top.specs.commands.Project.{project_words_of};
+ghost use Rattle.call_parts.specs.Project.{project_words_of};
 
-use crate::ending::{End, Reported};
-use crate::host::{GatewayAddress, address_in};
-use crate::jobs::{all_planned, are_known, images_for, jobs_of};
-use crate::options::{SimOptions, sim_options};
-use crate::project::{
-    ProjectNames, ProjectTexts, read_in, read_project_texts, sound_in, unknown_job,
-};
 use crate::watched::{Run, commission};
+use call_parts::{
+    End, GatewayAddress, ProjectNames, ProjectTexts, Reported, SimOptions, address_in, all_planned,
+    are_known, images_for, jobs_of, read_in, read_project_texts, sim_options, sound_in,
+    unknown_job,
+};
 use call_words::{InputFile, JobWord, Stop};
 use hub_work::HubJob;
 use knx_model::{Files, List, NoMemory};

@@ -2,12 +2,10 @@
 
 ghost use Rattle.std.specs.Prelude.{◌≡◌, Err, map, string_bytes};
 ghost use Rattle.std.specs.Option.{option_map};
-ghost use Rattle.knx_top.specs.Ending.{Is};
+ghost use Rattle.call_parts.specs.Ending.{Is};
 ghost use Rattle.knx_top.specs.commands.Find.{EndsFor, RunsFind, find_words, find_words_of, inquiry_value};
 
-use crate::ending::End;
-use crate::host::{GatewayAddress, address_in};
-use crate::searched::SearchEnd;
+use call_parts::{End, GatewayAddress, SearchEnd, address_in};
 use call_words::Stop;
 use discovery_ends::{Finder, Findings, Inquiry, LinkFault, Looked, look};
 use line_model::Dialer;

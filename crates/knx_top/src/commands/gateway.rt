@@ -4,19 +4,18 @@ ghost use Rattle.std.specs.Prelude.{◌≡◌, ◌≢◌, ◌≤◌, ◌+◌, �
 ghost use Rattle.std.specs.Option.{option_map};
 ghost use Rattle.call_words.specs.declared.stop.Stop.TheVariants.{NoMemory as OutOfMemory};
 ghost use Rattle.line_model.specs.PortStory.{IsNewPort};
-ghost use Rattle.knx_top.specs.Ending.{Is, report_in};
-ghost use Rattle.knx_top.specs.Input.{OnlyRose};
-ghost use Rattle.knx_top.specs.Names.{address_of};
+ghost use Rattle.call_parts.specs.Ending.{Is, report_in};
+ghost use Rattle.call_parts.specs.Input.{OnlyRose};
+ghost use Rattle.call_parts.specs.Names.{address_of};
 ghost use Rattle.knx_top.specs.commands.Gateway.{GatewayIsRead, IsLineOf, LineFor, RunsGateway, Serves, ServesOr, Service, Serving, end_of_fault, end_of_serving, failed_of_gateway, files_of_gateway, gateway_words, gateway_words_of, judged_gateway, turns_value, unless_failed, with_lines};
 
-use crate::ending::{End, ServiceEnd};
-use crate::host::{GatewayAddress, address_in};
-use crate::identity::{about_gateway, own_endpoint};
-use crate::input::{Reading, read_after, read_named};
 use crate::line::{line_begun, tunnel_address};
-use crate::options::{behind, from_1_to, project_options};
-use crate::project::{models_in, project_in, read_of, script_in, sound_in};
 use bus_sim::{Served, SimBus};
+use call_parts::{
+    End, GatewayAddress, Reading, ServiceEnd, about_gateway, address_in, behind, from_1_to,
+    models_in, own_endpoint, project_in, project_options, read_after, read_named, read_of,
+    script_in, sound_in,
+};
 use call_words::{InputFile, Stop};
 use discovery_ends::Answerer;
 use knx_model::{Files, IndAddr};

@@ -21,7 +21,7 @@ use crate::commands::download::{DownloadNames, download_names};
 use crate::commands::find::{FindNames, find_names};
 use crate::commands::gateway::{GatewayNames, gateway_names};
 use crate::commands::sim::{SimNames, sim_names};
-use crate::project::{ProjectNames, project_names};
+use call_parts::{ProjectNames, project_names};
 
 /// A command with its words.
 #[derive(Drop)]

@@ -1,12 +1,11 @@
 //! `tables P [catalogue=F]`: the tables of a project's devices.
 
 ghost use Rattle.std.specs.Prelude.{◌≡◌, ◌≤◌, ◌+◌, ℕ, IfOk, List, length};
-ghost use Rattle.knx_top.specs.Ending.{Is, TellsOf, end_told};
-ghost use Rattle.knx_top.specs.commands.Project.{TellsOfProject, files_of_project, judged_project, project_words_of};
+ghost use Rattle.call_parts.specs.Ending.{Is, TellsOf, end_told};
+ghost use Rattle.call_parts.specs.Project.{TellsOfProject, files_of_project, judged_project, project_words_of};
 ghost use Rattle.knx_top.specs.commands.Tables.{IsTablesText};
 
-use crate::ending::End;
-use crate::project::{ProjectNames, ProjectTexts, read_in, read_project_texts, sound_in};
+use call_parts::{End, ProjectNames, ProjectTexts, read_in, read_project_texts, sound_in};
 use call_words::{InputFile, Stop};
 use knx_model::{Files, NoMemory, Octets};
 use project_check::Checked;

@@ -4,7 +4,7 @@ use Rattle.knx_top.specs.commands.Tables.{IsTablesText}
 use Rattle.knx_top.proofs.commands.Assigns.{assign_no_run, assign_sim_no_run}
 use Rattle.knx_top.proofs.commands.Decodes.{frame_no_run}
 use Rattle.knx_top.proofs.commands.Finds.{find_no_run}
-use Rattle.knx_top.proofs.commands.Projects.{project_no_run}
+use Rattle.call_parts.proofs.Projects.{project_no_run}
 use Rattle.knx_top.proofs.call.run.Goals as goal
 
 pub returns-in-Check-clause-does : goal.returns-in-Check-clause-does

@@ -1,6 +1,6 @@
 use Rattle.std.proofs.Common.{refl}
-use Rattle.knx_top.specs.OnLine.{IsCompiled}
-use Rattle.knx_top.proofs.Pairs.{AllZip_more}
+use Rattle.call_parts.specs.OnLine.{IsCompiled}
+use Rattle.call_parts.proofs.Pairs.{AllZip_more}
 use Rattle.knx_top.proofs.line.compiled.Goals as goal
 
 pub loop-device-preserved : goal.loop-device-preserved

@@ -1,5 +1,5 @@
 use Rattle.std.proofs.Common.{take}
-use Rattle.knx_top.specs.OnLine.{AreCompiled}
+use Rattle.call_parts.specs.OnLine.{AreCompiled}
 use Rattle.knx_top.proofs.line.compiled.Given as goal
 
 -- each device so far has its image

@@ -2,7 +2,7 @@ use Rattle.std.proofs.Common.{◌≡◌, filter, map}
 use Rattle.std.specs.List.{range_with_len}
 use Rattle.knx_model.specs.declared.address.IndAddr.{IndAddr}
 use Rattle.line_model.specs.StartOf.{line_of, tunnel_address, is_on_bus}
-use Rattle.knx_top.specs.OnLine.{address_at}
+use Rattle.call_parts.specs.OnLine.{address_at}
 use Rattle.knx_top.proofs.line.on_bus.Given as goal
 
 -- the devices so far

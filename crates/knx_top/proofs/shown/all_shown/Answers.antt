@@ -4,7 +4,7 @@ use Rattle.bus_sim.specs.RunNow.{world}
 use Rattle.knx_model.specs.declared.address.IndAddr.{IndAddr}
 use Rattle.knx_model.specs.declared.config.Image.{Image}
 use Rattle.knx_top.specs.Shown.{IsShownIn}
-use Rattle.knx_top.proofs.Pairs.{AllZip_more}
+use Rattle.call_parts.proofs.Pairs.{AllZip_more}
 use Rattle.knx_top.proofs.shown.all_shown.Goals as goal
 
 pub shown_at-requires : goal.shown_at-requires

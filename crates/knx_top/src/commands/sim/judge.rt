@@ -3,17 +3,17 @@
 ghost use Rattle.std.specs.Prelude.{◌≡◌, ◌≢◌, ◌≤◌, Err, IfErr, IfOk, length};
 ghost use Rattle.call_words.specs.declared.stop.Stop.TheVariants.{NoMemory as OutOfMemory};
 ghost use Rattle.knx_top.specs.Begun.{BeginsLine, IsPrepared, OrderFor};
-ghost use Rattle.knx_top.specs.Names.{options_of};
-ghost use Rattle.knx_top.specs.Options.{most_jobs};
+ghost use Rattle.call_parts.specs.Names.{options_of};
+ghost use Rattle.call_parts.specs.Options.{most_jobs};
 ghost use Rattle.knx_top.specs.commands.Sim.{judged, sim_words_of, with_lines, with_project};
 
 use crate::commands::sim::{SimNames, SimTexts};
-use crate::jobs::{all_planned, are_known, jobs_of};
 use crate::line::{compiled, line_begun, on_bus};
-use crate::options::SimOptions;
-use crate::project::{models_in, project_in, read_of, script_in, sound_in, unknown_job};
-use crate::turns::turns_of;
 use bus_sim::SimBus;
+use call_parts::{
+    SimOptions, all_planned, are_known, jobs_of, models_in, project_in, read_of, script_in,
+    sound_in, turns_of, unknown_job,
+};
 use call_words::{InputFile, JobWord, Stop};
 use hub_work::HubJob;
 use knx_model::{Catalogue, Image, IndAddr, List, NoMemory};

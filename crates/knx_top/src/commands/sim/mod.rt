@@ -2,8 +2,8 @@
 
 ghost use Rattle.std.specs.Prelude.{◌≡◌, ◌≤◌, ◌+◌, ℕ, List, length, map, string_bytes};
 ghost use Rattle.std.specs.Option.{option_map};
-ghost use Rattle.knx_top.specs.Ending.{Is, report_in};
-ghost use Rattle.knx_top.specs.Input.{OnlyRose};
+ghost use Rattle.call_parts.specs.Ending.{Is, report_in};
+ghost use Rattle.call_parts.specs.Input.{OnlyRose};
 ghost use Rattle.knx_top.specs.Ran.{FaultsOfLine};
 ghost use Rattle.knx_top.specs.Watched.{TellsWatcher};
 ghost use Rattle.line_model.specs.Watched.{watch_in};
@@ -13,10 +13,8 @@ pub mod judge;
 pub mod run;
 
 use crate::commands::sim::run::commission;
-use crate::ending::End;
-use crate::input::{Reading, read_after, read_named};
-use crate::options::{SimOptions, sim_options};
 use bus_sim::SimBus;
+use call_parts::{End, Reading, SimOptions, read_after, read_named, sim_options};
 use knx_model::Files;
 use line_model::{Gate, Watcher};
 use std::alloc::Global;

@@ -9,9 +9,9 @@ ghost use Rattle.knx_model.specs.declared.config.Image.{Image as Compiled};
 ghost use Rattle.hub_work.specs.Requests.{IsTurnInRange};
 ghost use Rattle.line_model.specs.Headline.{IsGoodJob};
 ghost use Rattle.knx_top.specs.Begun.{IsOrder};
-ghost use Rattle.knx_top.specs.Ending.{report_in};
-ghost use Rattle.knx_top.specs.Jobs.{seen_job};
-ghost use Rattle.knx_top.specs.Names.{options_of};
+ghost use Rattle.call_parts.specs.Ending.{report_in};
+ghost use Rattle.call_parts.specs.Jobs.{seen_job};
+ghost use Rattle.call_parts.specs.Names.{options_of};
 ghost use Rattle.knx_top.specs.Ran.{Commission, FaultsOfLine, HasThreeTries};
 ghost use Rattle.knx_top.specs.Watched.{TellsWatcher};
 ghost use Rattle.line_model.specs.Watched.{watch_in};
@@ -19,11 +19,10 @@ ghost use Rattle.knx_top.specs.commands.Sim.{Comes, Runs, ShowsRun, judged, sim_
 
 use crate::commands::sim::judge::{Order, judge};
 use crate::commands::sim::{SimNames, SimTexts};
-use crate::ending::{End, Reported};
-use crate::options::SimOptions;
 use crate::shown::all_shown;
 use crate::watched::{Run, commission as commission_line};
 use bus_sim::SimBus;
+use call_parts::{End, Reported, SimOptions};
 use call_words::JobWord;
 use knx_model::{Image, IndAddr, List};
 use line_model::{Gate, Report, Watcher};

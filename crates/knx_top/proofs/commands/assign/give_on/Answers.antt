@@ -1,5 +1,5 @@
 use Rattle.std.proofs.Common.{subst, ◌∙◌}
-use Rattle.knx_top.specs.Given.{EndsAs}
+use Rattle.call_parts.specs.Given.{EndsAs}
 use Rattle.knx_top.proofs.commands.Assigns.{given_sim}
 use Rattle.knx_top.proofs.commands.assign.give_on.Goals as goal
 

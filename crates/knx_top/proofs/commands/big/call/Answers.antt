@@ -1,14 +1,14 @@
 use Rattle.std.proofs.Common.{Bool, [], refl, sym, ap, subst}
 use Rattle.line_model.specs.Watched.{watch_in}
-use Rattle.knx_top.specs.Ending.{report_in}
-use Rattle.knx_top.specs.Options.{SimOptions}
+use Rattle.call_parts.specs.Ending.{report_in}
+use Rattle.call_parts.specs.Options.{SimOptions}
 use Rattle.knx_top.specs.Watched.{TellsWatcher}
 use Rattle.knx_top.proofs.Watches.{tells_summed}
 use Rattle.knx_model.specs.Counts.{counts_of}
 use Rattle.knx_top.proofs.Present.{devices_there}
 use Rattle.knx_top.proofs.commands.Bigs.{order_made, runs_made, stops_wanting}
 use Rattle.knx_top.specs.commands.Big.{commission_made, made}
-use Rattle.knx_top.specs.declared.ending.End.TheVariants.{Stops}
+use Rattle.call_parts.specs.declared.ending.End.TheVariants.{Stops}
 use Rattle.knx_top.proofs.commands.big.call.Goals as goal
 
 pub run-end-requires-clause-devices : goal.run-end-requires-clause-devices

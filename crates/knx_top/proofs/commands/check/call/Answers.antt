@@ -1,7 +1,7 @@
-use Rattle.knx_top.specs.Ending.{end_told}
+use Rattle.call_parts.specs.Ending.{end_told}
 use Rattle.knx_top.specs.commands.Check.{IsCountsText}
-use Rattle.knx_top.specs.commands.Project.{project_words_of}
-use Rattle.knx_top.proofs.commands.Projects.{tells_so}
+use Rattle.call_parts.specs.Project.{project_words_of}
+use Rattle.call_parts.proofs.Projects.{tells_so}
 use Rattle.knx_top.proofs.commands.check.call.Goals as goal
 
 pub returns-clause-told : goal.returns-clause-told

@@ -1,5 +1,5 @@
 use Rattle.knx_top.specs.commands.Download.{download_words_of}
-use Rattle.knx_top.specs.commands.Project.{project_words_of}
+use Rattle.call_parts.specs.Project.{project_words_of}
 use Rattle.knx_top.proofs.commands.Downloads.{runs_dialled}
 use Rattle.knx_top.proofs.commands.download.call.Goals as goal
 

@@ -1,5 +1,5 @@
 use Rattle.std.proofs.Common.{◌∙◌}
-use Rattle.knx_top.specs.Names.{address_of, options_of}
+use Rattle.call_parts.specs.Names.{address_of, options_of}
 use Rattle.knx_top.proofs.DialledRuns.{reached, to_address}
 use Rattle.knx_top.proofs.commands.download.dial_and_run.Goals as goal
 

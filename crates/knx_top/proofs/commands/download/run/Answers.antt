@@ -1,6 +1,6 @@
 use Rattle.std.proofs.Common.{◌∙◌}
-use Rattle.knx_top.specs.Names.{options_of}
-use Rattle.knx_top.specs.Options.{workers_of}
+use Rattle.call_parts.specs.Names.{options_of}
+use Rattle.call_parts.specs.Options.{workers_of}
 use Rattle.knx_top.proofs.DialledRuns.{caused, told_over}
 use Rattle.knx_top.proofs.commands.download.run.Goals as goal
 

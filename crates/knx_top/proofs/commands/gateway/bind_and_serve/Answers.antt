@@ -1,5 +1,5 @@
 use Rattle.std.proofs.Common.{◌∙◌, refl}
-use Rattle.knx_top.specs.Names.{address_of}
+use Rattle.call_parts.specs.Names.{address_of}
 use Rattle.knx_top.proofs.DialledRuns.{to_address}
 use Rattle.knx_top.proofs.ServedRuns.{bound}
 use Rattle.knx_top.proofs.commands.gateway.bind_and_serve.Goals as goal

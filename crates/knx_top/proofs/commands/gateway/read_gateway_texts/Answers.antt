@@ -1,5 +1,5 @@
 use Rattle.std.proofs.Common.{◌∙◌}
-use Rattle.knx_top.proofs.Counts.{read_still}
+use Rattle.call_parts.proofs.Counts.{read_still}
 use Rattle.knx_top.specs.commands.Gateway.{gateway_words_of}
 use Rattle.knx_top.proofs.commands.Gateways.{gateway_rose}
 use Rattle.knx_top.proofs.commands.gateway.read_gateway_texts.Goals as goal

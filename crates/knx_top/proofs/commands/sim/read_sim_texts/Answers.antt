@@ -1,5 +1,5 @@
 use Rattle.std.proofs.Common.{◌∙◌}
-use Rattle.knx_top.proofs.Counts.{read_still}
+use Rattle.call_parts.proofs.Counts.{read_still}
 use Rattle.knx_top.specs.commands.Sim.{sim_words_of}
 use Rattle.knx_top.proofs.commands.Sims.{sim_rose}
 use Rattle.knx_top.proofs.commands.sim.read_sim_texts.Goals as goal

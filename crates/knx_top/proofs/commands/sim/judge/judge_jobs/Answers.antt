@@ -1,5 +1,5 @@
 use Rattle.std.proofs.Common.{sym, ◌∙◌}
-use Rattle.knx_top.specs.Names.{options_of}
+use Rattle.call_parts.specs.Names.{options_of}
 use Rattle.knx_top.proofs.Ordered.{unknown_ends, ordered}
 use Rattle.knx_top.proofs.commands.sim.judge.judge_jobs.Goals as goal
 

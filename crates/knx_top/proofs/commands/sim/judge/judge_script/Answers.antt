@@ -1,4 +1,4 @@
-use Rattle.knx_top.specs.Names.{options_of}
+use Rattle.call_parts.specs.Names.{options_of}
 use Rattle.knx_top.proofs.Ordered.{strange_ends}
 use Rattle.knx_top.proofs.commands.sim.judge.judge_script.Goals as goal
 

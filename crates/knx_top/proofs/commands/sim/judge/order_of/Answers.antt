@@ -1,4 +1,4 @@
-use Rattle.knx_top.proofs.FewJobs.{plans_few}
+use Rattle.call_parts.proofs.FewJobs.{plans_few}
 use Rattle.knx_top.proofs.GoodJobs.{all_good}
 use Rattle.knx_top.proofs.commands.sim.judge.order_of.Goals as goal
 

@@ -6,8 +6,8 @@ use Rattle.knx_model.specs.declared.config.Image.{Image}
 use Rattle.line_model.specs.declared.group.GroupTurn.{GroupTurn}
 use Rattle.tunnel_link.specs.Rights.{FailsWhere}
 use Rattle.line_model.specs.Log.{Job}
-use Rattle.knx_top.specs.Jobs.{seen_job}
-use Rattle.knx_top.specs.Options as asked
+use Rattle.call_parts.specs.Jobs.{seen_job}
+use Rattle.call_parts.specs.Options as asked
 use Rattle.knx_top.specs.Ran.{FaultsOfLine, log_in}
 use Rattle.bus_sim.proofs.New.{new_line}
 use Rattle.knx_top.proofs.Driven.{driven, faults_last, jobs_seen, still_one}

@@ -1,0 +1,10 @@
+pub mod OptionsBehind
+pub mod Counts
+pub mod Ends
+pub mod FewJobs
+pub mod Hosts
+pub mod Pairs
+pub mod Plans
+pub mod Projects
+pub mod Sendable
+pub mod Stops

@@ -1,0 +1,15 @@
+pub mod Fronts
+pub mod Host
+pub mod Options
+pub mod Names
+pub mod Input
+pub mod Stops
+pub mod Judged
+pub mod Ending
+pub mod Given
+pub mod Searched
+pub mod Identity
+pub mod Jobs
+pub mod OnLine
+pub mod Turns
+pub mod Project

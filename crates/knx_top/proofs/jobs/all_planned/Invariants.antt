@@ -1,7 +1,0 @@
-use Rattle.std.proofs.Common.{map, take}
-use Rattle.knx_top.specs.Jobs.{ArePlanned, seen_job}
-use Rattle.knx_top.proofs.jobs.all_planned.Given as goal
-
--- each job so far has its plan
-abbrev pub invariant-loop-job : goal.invariant-loop-job
-invariant-loop-job l = ArePlanned l.project (map seen_job l.all) (take l.job-index l.jobs)

@@ -1,9 +1,0 @@
-use Rattle.std.proofs.Common.{◌≡◌, drop, map, string_bytes}
-use Rattle.knx_top.specs.Fronts.{read_all}
-use Rattle.knx_top.specs.Names.{options_of}
-use Rattle.knx_top.proofs.options.project_options.Given as goal
-use Rattle.knx_top.specs.Options.{project_rows, project_options}
-
--- what the words so far say, before what the words that are left add to it
-abbrev pub invariant-loop-word : goal.invariant-loop-word
-invariant-loop-word l = read_all project_rows (map string_bytes (drop l.word-index l.words)) (options_of l.options) ≡ project_options (map string_bytes l.words)
