@@ -1,0 +1,2 @@
+pub mod Programmed
+pub mod Determined
