@@ -5,6 +5,7 @@ ghost use Rattle.knx_model.specs.Answers.{AnswersUnless};
 ghost use Rattle.knx_model.specs.Statements.{reading};
 ghost use Rattle.knx_model.specs.declared.refusal.Why.TheVariants.{NoMemory as OutOfMemory};
 
+use crate::grammar::grammar_of;
 use crate::line::line_in;
 use crate::project::Project;
 use knx_model::{LONGEST_TEXT, List, Refused, Why, first_line, has_plain_lines, refused_at};
@@ -36,11 +37,12 @@ pub fn read_project(alloc: Global, octets: &[u8]) -> Result<Project<'_>, Refused
 {
     fits(octets)?;
     let mut statements = List::new(alloc);
+    let grammar = grammar_of(octets);
     let is_plain = has_plain_lines(octets);
     let mut line = 1;
     let mut rest = octets;
     while let Some((text, after)) = first_line(rest) {
-        if let Err(why) = line_in(&mut statements, line, text, is_plain) {
+        if let Err(why) = line_in(alloc, grammar, &mut statements, line, text, is_plain) {
             return Err(refused_at(line, why));
         }
         line += 1;
