@@ -11,6 +11,7 @@ pub mod Plain
 pub mod Spelled
 pub mod SpelledFlags
 pub mod SpelledNames
+pub mod SpelledGroups
 pub mod SpelledNumbers
 pub mod SpelledValues
 pub mod Spells

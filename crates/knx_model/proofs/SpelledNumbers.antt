@@ -15,19 +15,7 @@ use Rattle.knx_model.specs.Spells.SpellsNumber.{Decimal, Hexadecimal}
 use Rattle.knx_model.proofs.Finite.{all_below, below, answers, answers-true}
 use Rattle.knx_model.proofs.Numbers.{all_digits}
 use Rattle.knx_model.proofs.Spelled.{no_hex, number_again}
-use Rattle.knx_model.proofs.Spells.{up_to_some}
-
-digits_to : (base most : ℕ) (w : List ℕ) (n : ℕ) → numeral base most w ≡ Some n → SpellsDigits base most w n
-unfolding numeral
-digits_to base most w n e =
-    let v = cond_some (ltb 0 (length w) && leb (length w) most && list_all (is_digit base) w) (digits_value base w) n e in
-    let p = and_parts (ltb 0 (length w) && leb (length w) most) (list_all (is_digit base) w) v.0 in
-    let q = and_parts (ltb 0 (length w)) (leb (length w) most) p.0 in
-    record { are_digits = p.1; some = ltb-true _ _ q.0; short = leb-true _ _ q.1; value = v.1 }
-
-digits_from : (base most : ℕ) (w : List ℕ) (n : ℕ) → SpellsDigits base most w n → numeral base most w ≡ Some n
-unfolding numeral
-digits_from base most w n is = rw (lt-ltb 0 (length w) is.some, le-leb (length w) most is.short, is.are_digits, is.value) refl
+use Rattle.knx_model.proofs.Spells.{up_to_some, digits_to, digits_from}
 
 after_0x : (w : List ℕ) → starts_with eqb w (48 ∷ 120 ∷ []) ≡ true → w ≡ 48 ∷ 120 ∷ drop 2 w
 after_0x [] e = absurd cc

@@ -11,15 +11,27 @@ use Rattle.knx_model.specs.declared.address.GroupAddr.{GroupAddr}
 use Rattle.knx_model.specs.declared.address.IndAddr.{IndAddr}
 use Rattle.knx_model.specs.Numbers.{is_digit, numeral, up_to, part_value}
 use Rattle.knx_model.specs.Addresses.{three, group_value, ind_value, ◌>>=◌}
-use Rattle.knx_model.specs.Spells.{SpellsPart, SpellsGroup, SpellsDevice}
+use Rattle.knx_model.specs.Spells.{SpellsPart, SpellsDigits, SpellsGroup, SpellsDevice}
 
-bind_some : {A B : Type 0} (o : Option A) (f : A → Option B) (y : B) → (o >>= f) ≡ Some y → (x : A) × (o ≡ Some x) × (f x ≡ Some y)
+pub bind_some : {A B : Type 0} (o : Option A) (f : A → Option B) (y : B) → (o >>= f) ≡ Some y → (x : A) × (o ≡ Some x) × (f x ≡ Some y)
 bind_some (Some x) f y e = (x, refl, e)
 bind_some None f y e = absurd cc
 
 pub up_to_some : (most : ℕ) (o : Option ℕ) (n : ℕ) → up_to most o ≡ Some n → (o ≡ Some n) × (n ≤ most)
 up_to_some most None n e = absurd cc
 up_to_some most (Some m) n e = let h = cond_some (leb m most) m n e in (ap (λ (x : ℕ). Some x) h.1, subst (λ (x : ℕ). x ≤ most) h.1 (leb-true m most h.0))
+
+pub digits_to : (base most : ℕ) (w : List ℕ) (n : ℕ) → numeral base most w ≡ Some n → SpellsDigits base most w n
+unfolding numeral
+digits_to base most w n e =
+    let v = cond_some (ltb 0 (length w) && leb (length w) most && list_all (is_digit base) w) (digits_value base w) n e in
+    let p = and_parts (ltb 0 (length w) && leb (length w) most) (list_all (is_digit base) w) v.0 in
+    let q = and_parts (ltb 0 (length w)) (leb (length w) most) p.0 in
+    record { are_digits = p.1; some = ltb-true _ _ q.0; short = leb-true _ _ q.1; value = v.1 }
+
+pub digits_from : (base most : ℕ) (w : List ℕ) (n : ℕ) → SpellsDigits base most w n → numeral base most w ≡ Some n
+unfolding numeral
+digits_from base most w n is = rw (lt-ltb 0 (length w) is.some, le-leb (length w) most is.short, is.are_digits, is.value) refl
 
 pub part_to : (most : ℕ) (w : List ℕ) (n : ℕ) → part_value most w ≡ Some n → SpellsPart most w n
 unfolding part_value numeral
@@ -30,7 +42,7 @@ part_to most w n e =
     let q = and_parts (ltb 0 (length w)) (leb (length w) 3) p.0 in
     record { digits = p.1; some = ltb-true _ _ q.0; short = leb-true _ _ q.1; value = v.1; small = u.1 }
 
-part_from : (most : ℕ) (w : List ℕ) (n : ℕ) → SpellsPart most w n → part_value most w ≡ Some n
+pub part_from : (most : ℕ) (w : List ℕ) (n : ℕ) → SpellsPart most w n → part_value most w ≡ Some n
 unfolding part_value numeral
 part_from most w n is = rw (lt-ltb 0 (length w) is.some, le-leb (length w) 3 is.short, is.digits, is.value, le-leb n most is.small) refl
 
@@ -41,7 +53,7 @@ three_some (x ∷ y ∷ []) a b c e = absurd cc
 three_some (x ∷ y ∷ z ∷ []) a b c e = ap (λ (t : List ℕ × List ℕ × List ℕ). t.0 ∷ t.1 ∷ t.2 ∷ []) (same_Some (x, y, z) (a, b, c) e)
 three_some (x ∷ y ∷ z ∷ w ∷ ws) a b c e = absurd cc
 
-group_last : (n : ℕ) (g : GroupAddr) → cond {A = Option GroupAddr} (eqb n 0) None (Some (record { raw = n })) ≡ Some g → (g.raw ≡ n) × (0 < g.raw)
+pub group_last : (n : ℕ) (g : GroupAddr) → cond {A = Option GroupAddr} (eqb n 0) None (Some (record { raw = n })) ≡ Some g → (g.raw ≡ n) × (0 < g.raw)
 group_last n g e = elim (cases_eq n 0) [
   | inl zero-is ↦ absurd (none-some g (sym (ap (λ (b : Bool). cond {A = Option GroupAddr} b None (Some (record { raw = n }))) (eq-eqb n 0 zero-is)) ∙ e))
   | inr other ↦

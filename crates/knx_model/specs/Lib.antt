@@ -14,6 +14,7 @@ pub mod LeastLine
 pub mod Refusal
 pub mod TextLines
 -- 2. A project and what it means
+pub mod Groups
 pub mod Statements
 pub mod Models
 pub mod Rules

@@ -1,7 +1,8 @@
 -- What a project means for one device: its links, its objects and its parameters, taken from the statements and the device's model
 -- alone. No group is numbered here. The project language is this project's own.
-use Rattle.std.specs.Prelude.{◌≡◌, ◌≢◌, ℕ, ◌<◌, ◌↔◌, Bool, IsTrue, not, slice_get, ◌&&◌, ◌==◌, bytes_eq, List, [], ◌∷◌, ◌++◌, take, map, fold, max, Option, Some, None, unwrap_or, if◌then◌else◌}
-use Rattle.std.specs.List.{list_any, filter_map, enumerate_from, range_with_len, last_or}
+use Rattle.std.specs.Prelude.{◌≡◌, ◌≢◌, ℕ, ◌<◌, ◌↔◌, Bool, false, IsTrue, slice_get, ◌&&◌, ◌==◌, bytes_eq, List, [], ◌∷◌, ◌++◌, map, fold, max, Option, Some, None, unwrap_or, if◌then◌else◌}
+use Rattle.std.specs.Option.{option_or}
+use Rattle.std.specs.List.{filter_map, flat_map, range_with_len, last_or}
 use Rattle.knx_model.specs.declared.address.GroupAddr.{GroupAddr}
 use Rattle.knx_model.specs.declared.address.IndAddr.{IndAddr}
 use Rattle.knx_model.specs.declared.catalogue.model.Model.{Model}
@@ -14,9 +15,9 @@ use Rattle.knx_model.specs.declared.config.ObjSpec.{ObjSpec}
 use Rattle.knx_model.specs.declared.config.ParamValue.{ParamValue}
 use Rattle.knx_model.specs.declared.project.Statement.{Statement}
 use Rattle.knx_model.specs.declared.project.What.{What}
-use Rattle.knx_model.specs.declared.project.What.TheVariants.{Object, Link, Flags, Param}
+use Rattle.knx_model.specs.declared.project.What.TheVariants.{Object, Link, Send, Flags, Param}
 use Rattle.knx_model.specs.Models.{inline}
-use Rattle.knx_model.specs.Rules.{model_of}
+use Rattle.knx_model.specs.Rules.{first_some, model_of}
 
 -- what a project text says, with the models of the catalogue that it is read with
 pub record Installation : Type 0 where
@@ -25,30 +26,63 @@ pub record Installation : Type 0 where
 
 -- ---- links
 
--- the object and the group of a `link` line of the device
-abbrev pub link_line : IndAddr → What → Option (ℕ × GroupAddr)
-link_line device (Link of object group) = if of.raw == device.raw then Some (object, group) else None
-link_line device _ = None
+-- the object and the group of a link
+abbrev pub link_to : ℕ → GroupAddr → ℕ × GroupAddr
+link_to object group = (object, group)
+
+-- those of a `link` line of the device, one for each of its groups
+abbrev pub links_said : IndAddr → What → List (ℕ × GroupAddr)
+links_said device (Link of object groups) = if of.raw == device.raw then map (link_to object) groups else []
+links_said device _ = []
 
 abbrev pub link_lines : IndAddr → List Statement → List (ℕ × GroupAddr)
-link_lines device ss = filter_map (λ s. link_line device s.what) ss
+link_lines device ss = flat_map (λ s. links_said device s.what) ss
 
-abbrev pub is_of_object : ℕ → ℕ × GroupAddr → Bool
-is_of_object object line = line.0 == object
+-- the group in a `send` line of the object
+abbrev pub send_line : IndAddr → ℕ → What → Option GroupAddr
+send_line device n (Send of object group) = if (of.raw == device.raw) && (object == n) then Some group else None
+send_line device n _ = None
 
--- the first line of an object is its sending link
-abbrev pub link_at : List (ℕ × GroupAddr) → ℕ → ℕ × GroupAddr → LinkSpec
-link_at lines place line = record { object = line.0; group = line.1; sending = not (list_any (is_of_object line.0) (take place lines)) }
+-- that of the last such line
+abbrev pub last_send : IndAddr → List Statement → ℕ → Option GroupAddr
+last_send device ss n = last_or None (filter_map (λ s. send_line device n s.what) ss)
 
--- one link for each `link` line, in order
-unfoldable pub links_of : List (ℕ × GroupAddr) → List LinkSpec
-links_of lines = map (λ p. link_at lines p.0 p.1) (enumerate_from 0 lines)
+-- the group of the object's first link
+abbrev pub first_group : List (ℕ × GroupAddr) → ℕ → Option GroupAddr
+first_group [] n = None
+first_group (line ∷ lines) n = if line.0 == n then Some line.1 else first_group lines n
 
--- the same in the language's own words: a line says the link, which is the object's sending one exactly where that line is its first
-pub record IsLinkOf (lines : List (ℕ × GroupAddr)) (link : LinkSpec) : Type 0 where
+-- the sending address of the object: the group of its last `send` line, or, where it has none, of its first link
+abbrev pub sending_group : (ℕ → Option GroupAddr) → List (ℕ × GroupAddr) → ℕ → Option GroupAddr
+sending_group sends lines n = option_or (sends n) (first_group lines n)
+
+abbrev pub is_the_group : Option GroupAddr → GroupAddr → Bool
+is_the_group None group = false
+is_the_group (Some sending) group = sending.raw == group.raw
+
+abbrev pub link_of : (ℕ → Option GroupAddr) → List (ℕ × GroupAddr) → ℕ × GroupAddr → LinkSpec
+link_of sends lines line = record { object = line.0; group = line.1; sending = is_the_group (sending_group sends lines line.0) line.1 }
+
+-- one link for each group of each `link` line, in order
+unfoldable pub links_of : (ℕ → Option GroupAddr) → List (ℕ × GroupAddr) → List LinkSpec
+links_of sends lines = map (link_of sends lines) lines
+
+-- the same in the language's own words: a line of the object has the group, and no earlier one is of the object
+pub record IsFirstGroup (lines : List (ℕ × GroupAddr)) (object : ℕ) (group : GroupAddr) : Type 0 where
+  pub at : ℕ
+  pub there : slice_get lines at ≡ Some (object, group)
+  pub first : (k : ℕ) (earlier : ℕ × GroupAddr) → k < at → slice_get lines k ≡ Some earlier → earlier.0 ≢ object
+
+-- the object sends to the group: its last `send` line says so, or it has none and this is the group of its first link
+pub data IsSending (sends : ℕ → Option GroupAddr) (lines : List (ℕ × GroupAddr)) (object : ℕ) (group : GroupAddr) : Type 0 where
+  BySend : sends object ≡ Some group → IsSending sends lines object group
+  ByFirst : sends object ≡ None → IsFirstGroup lines object group → IsSending sends lines object group
+
+-- a line says the link, which is the object's sending one exactly where the object sends to its group
+pub record IsLinkOf (sends : ℕ → Option GroupAddr) (lines : List (ℕ × GroupAddr)) (link : LinkSpec) : Type 0 where
   pub at : ℕ
   pub said : slice_get lines at ≡ Some (link.object, link.group)
-  pub first : IsTrue link.sending ↔ ((k : ℕ) (earlier : ℕ × GroupAddr) → k < at → slice_get lines k ≡ Some earlier → earlier.0 ≢ link.object)
+  pub sending : IsTrue link.sending ↔ IsSending sends lines link.object link.group
 
 -- ---- objects
 
@@ -123,7 +157,7 @@ the_model i device = or_inline (model_of i.catalogue i.statements device.raw)
 
 abbrev pub meaning : Installation → IndAddr → Config
 meaning i device = record {
-  links = links_of (link_lines device i.statements);
+  links = links_of (last_send device i.statements) (link_lines device i.statements);
   objects = objects_of (flagged_objects (the_model i device) device i.statements);
   param_len = (the_model i device).params;
   params = params_of (the_model i device) device i.statements;

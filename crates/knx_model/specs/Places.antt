@@ -4,7 +4,8 @@ use Rattle.std.specs.Prelude.{◌≡◌, ◌⊎◌, ℕ, Bool, true, false, List
 use Rattle.knx_model.specs.declared.refusal.Why.{Why}
 use Rattle.knx_model.specs.declared.refusal.Why.TheVariants.{BadAddress, BadNumber, BadName}
 use Rattle.knx_model.specs.Numbers.{number_value, is_name}
-use Rattle.knx_model.specs.Addresses.{group_value, ind_value}
+use Rattle.knx_model.specs.declared.project.TextVersion.{TextVersion}
+use Rattle.knx_model.specs.Addresses.{group_value, group_by, ind_value}
 use Rattle.knx_model.specs.Flags.{flags_value}
 use Rattle.knx_model.specs.Sizes.{size_value}
 use Rattle.knx_model.specs.Statements.{object_value, name_value}
@@ -20,6 +21,10 @@ wants read why = record { fits = λ word. is_some (read word); otherwise = why }
 
 abbrev pub a_group : Place
 a_group = wants group_value BadAddress
+
+-- a group as a project text of this version writes it
+abbrev pub a_group_by : TextVersion → Place
+a_group_by version = wants (group_by version) BadAddress
 
 abbrev pub a_device : Place
 a_device = wants ind_value BadAddress

@@ -28,6 +28,8 @@ why_number why.OutOfRange = Some 17
 why_number why.SizeDiffers = Some 18
 why_number (why.TooMany limit) = Some 19
 why_number why.NoDevice = Some 20
+why_number why.NotLinked = Some 22
+why_number why.BadVersion = Some 23
 
 -- its word, as it is printed
 abbrev pub why_word : Why → List ℕ
@@ -52,6 +54,8 @@ why_word why.OutOfRange = codes "OutOfRange"
 why_word why.SizeDiffers = codes "SizeDiffers"
 why_word (why.TooMany limit) = codes "TooMany"
 why_word why.NoDevice = codes "NoDevice"
+why_word why.NotLinked = codes "NotLinked"
+why_word why.BadVersion = codes "BadVersion"
 
 -- the same of a catalogue's refusal
 abbrev pub catalogue_number : CatRefused → Option ℕ

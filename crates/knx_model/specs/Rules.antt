@@ -1,8 +1,9 @@
 -- The rules that look at a whole project text, at the lines before a line and at the catalogue. Each is a sentence of its own; a line
 -- breaks the one of the least number, and a text is refused at its least line that breaks one. The rules are this project's own.
-use Rattle.std.specs.Prelude.{ℕ, Bool, true, false, ◌&&◌, ◌||◌, not, ◌==◌, nat_le, nat_lt, is_none, count_by, List, [], ◌∷◌, take, Option, Some, None, if◌then◌else◌}
+use Rattle.std.specs.Prelude.{ℕ, ◌+◌, Bool, true, false, ◌&&◌, ◌||◌, not, ◌==◌, nat_le, nat_lt, is_none, count_by, sum_by, length, List, [], ◌∷◌, take, Option, Some, None, if◌then◌else◌}
 use Rattle.std.specs.List.{list_any, filter_map, enumerate_from}
 use Rattle.knx_model.specs.LeastLine.{first_refused}
+use Rattle.knx_model.specs.declared.address.GroupAddr.{GroupAddr}
 use Rattle.knx_model.specs.declared.address.IndAddr.{IndAddr}
 use Rattle.knx_model.specs.declared.catalogue.model.Model.{Model}
 use Rattle.knx_model.specs.declared.catalogue.model.ModelField.{ModelField}
@@ -10,10 +11,10 @@ use Rattle.knx_model.specs.declared.catalogue.model.ModelObject.{ModelObject}
 use Rattle.knx_model.specs.declared.catalogue.model.NamedModel.{NamedModel}
 use Rattle.knx_model.specs.declared.project.Statement.{Statement}
 use Rattle.knx_model.specs.declared.project.What.{What}
-use Rattle.knx_model.specs.declared.project.What.TheVariants.{Group, Device, Object, Link, Flags, Param}
+use Rattle.knx_model.specs.declared.project.What.TheVariants.{Group, Device, Object, Link, Send, Flags, Param}
 use Rattle.knx_model.specs.declared.refusal.Refused.{Refused}
 use Rattle.knx_model.specs.declared.refusal.Why.{Why}
-use Rattle.knx_model.specs.declared.refusal.Why.TheVariants.{DuplicateDevice, DuplicateGroup, UnknownGroup, UnknownModel, DuplicateObject, UnknownObject, DuplicateLink, UnknownParameter, OutOfRange, SizeDiffers, TooMany, NoDevice}
+use Rattle.knx_model.specs.declared.refusal.Why.TheVariants.{DuplicateDevice, DuplicateGroup, UnknownGroup, UnknownModel, DuplicateObject, UnknownObject, DuplicateLink, UnknownParameter, OutOfRange, SizeDiffers, TooMany, NoDevice, NotLinked}
 use Rattle.knx_model.specs.Models.{model_named, object_in, field_in, has_object, has_field}
 
 -- ---- what statements declare. A device, an object and a group are named by their numbers.
@@ -36,10 +37,6 @@ abbrev pub is_object_line : What → Bool
 is_object_line (Object device number size flags) = true
 is_object_line _ = false
 
-abbrev pub is_link_line : What → Bool
-is_link_line (Link device object group) = true
-is_link_line _ = false
-
 -- the device of a `device` line
 abbrev pub device_in : What → Option IndAddr
 device_in (Device device model) = Some device
@@ -54,14 +51,27 @@ abbrev pub declares_object : ℕ → ℕ → What → Bool
 declares_object d n (Object device number size flags) = (device.raw == d) && (number == n)
 declares_object d n _ = false
 
+-- the group is one of these
+abbrev pub has_group : ℕ → List GroupAddr → Bool
+has_group g groups = list_any (λ x. x.raw == g) groups
+
 -- a `link` line links object n of the device to the group
 abbrev pub links_to : ℕ → ℕ → ℕ → What → Bool
-links_to d n g (Link device object group) = (device.raw == d) && (object == n) && (group.raw == g)
+links_to d n g (Link device object groups) = (device.raw == d) && (object == n) && has_group g groups
 links_to d n g _ = false
 
-abbrev pub links_device : ℕ → What → Bool
-links_device d (Link device object group) = device.raw == d
-links_device d _ = false
+-- the links of a `link` line, one for each of its groups
+abbrev pub links_in : What → ℕ
+links_in (Link device object groups) = length groups
+links_in _ = 0
+
+-- those of the device
+abbrev pub links_of_device : ℕ → What → ℕ
+links_of_device d (Link device object groups) = if device.raw == d then length groups else 0
+links_of_device d _ = 0
+
+abbrev pub count_links : ℕ → List Statement → ℕ
+count_links d ss = sum_by (λ s. links_of_device d s.what) ss
 
 abbrev pub some_line : (What → Bool) → List Statement → Bool
 some_line test ss = list_any (λ s. test s.what) ss
@@ -76,7 +86,7 @@ size_in d n _ = None
 
 -- the device and the object of a `link` line of the group
 abbrev pub linked_in : ℕ → What → Option (ℕ × ℕ)
-linked_in g (Link device object group) = if group.raw == g then Some (device.raw, object) else None
+linked_in g (Link device object groups) = if has_group g groups then Some (device.raw, object) else None
 linked_in g _ = None
 
 abbrev pub first_some : {X : Type 0} → (What → Option X) → List Statement → Option X
@@ -128,9 +138,14 @@ abbrev pub duplicate_group : List Statement → What → Bool
 duplicate_group earlier (Group group name) = some_line (declares_group group.raw) earlier
 duplicate_group earlier _ = false
 
--- 11: a `link` line's group stands in no `ga` line
+-- no `ga` line declares the group
+abbrev pub is_undeclared : List Statement → GroupAddr → Bool
+is_undeclared whole group = not (some_line (declares_group group.raw) whole)
+
+-- 11: a group of a `link` or `send` line stands in no `ga` line
 abbrev pub unknown_group : List Statement → What → Bool
-unknown_group whole (Link device object group) = not (some_line (declares_group group.raw) whole)
+unknown_group whole (Link device object groups) = list_any (is_undeclared whole) groups
+unknown_group whole (Send device object group) = is_undeclared whole group
 unknown_group whole _ = false
 
 -- 12: a `device` line's model is neither `inline` nor in the catalogue
@@ -153,16 +168,30 @@ duplicate_object catalogue earlier whole _ = false
 abbrev pub is_no_object : List Statement → ℕ → ℕ → Model → Bool
 is_no_object whole d n m = not (has_object m n) && not (some_line (declares_object d n) whole)
 
--- 14: a `link` or `flags` line's object stands in no `object` line of its device and not in its model
+-- 14: a `link`, `send` or `flags` line's object stands in no `object` line of its device and not in its model
 abbrev pub unknown_object : List NamedModel → List Statement → What → Bool
-unknown_object catalogue whole (Link device object group) = asked_of (model_of catalogue whole device.raw) (is_no_object whole device.raw object)
+unknown_object catalogue whole (Link device object groups) = asked_of (model_of catalogue whole device.raw) (is_no_object whole device.raw object)
+unknown_object catalogue whole (Send device object group) = asked_of (model_of catalogue whole device.raw) (is_no_object whole device.raw object)
 unknown_object catalogue whole (Flags device object flags) = asked_of (model_of catalogue whole device.raw) (is_no_object whole device.raw object)
 unknown_object catalogue whole _ = false
 
--- 15: a `link` line's device, object and group stand in an earlier one
+-- a group stands twice
+abbrev pub repeats_group : List GroupAddr → Bool
+repeats_group [] = false
+repeats_group (group ∷ groups) = has_group group.raw groups || repeats_group groups
+
+-- a `link` line's device, object and one of its groups stand in an earlier `link` line
+abbrev pub links_again : List Statement → What → Bool
+links_again earlier (Link device object groups) = list_any (λ group. some_line (links_to device.raw object group.raw) earlier) groups
+links_again earlier _ = false
+
+abbrev pub groups_of : What → List GroupAddr
+groups_of (Link device object groups) = groups
+groups_of _ = []
+
+-- 15: a `link` line's device, object and one of its groups stand in an earlier `link` line, or a group stands twice in the line
 abbrev pub duplicate_link : List Statement → What → Bool
-duplicate_link earlier (Link device object group) = some_line (links_to device.raw object group.raw) earlier
-duplicate_link earlier _ = false
+duplicate_link earlier what = links_again earlier what || repeats_group (groups_of what)
 
 -- 16: a `param` line's name isn't a parameter of its device's model
 abbrev pub unknown_parameter : List NamedModel → List Statement → What → Bool
@@ -188,11 +217,15 @@ abbrev pub size_of_first : List NamedModel → List Statement → Option (ℕ ×
 size_of_first catalogue whole None = None
 size_of_first catalogue whole (Some first) = size_of catalogue whole first.0 first.1
 
--- 18: a `link` line's object has another size than the object of the first `link` line of that group; not asked where the device
--- stands in no `device` line, nor where one of the objects is unknown
+-- a size that is known is another than that of the object of the group's first `link` line
+abbrev pub differs_from_first : List NamedModel → List Statement → Option ℕ → GroupAddr → Bool
+differs_from_first catalogue whole size group = differ size (size_of_first catalogue whole (first_linked whole group.raw))
+
+-- 18: for one of a `link` line's groups, the line's object has another size than the object of the first `link` line that has this
+-- group; not asked where the device stands in no `device` line, nor where one of the objects is unknown
 abbrev pub size_differs : List NamedModel → List Statement → What → Bool
-size_differs catalogue whole (Link device object group) =
-    some_line (declares_device device.raw) whole && differ (size_of catalogue whole device.raw object) (size_of_first catalogue whole (first_linked whole group.raw))
+size_differs catalogue whole (Link device object groups) =
+    some_line (declares_device device.raw) whole && list_any (differs_from_first catalogue whole (size_of catalogue whole device.raw object)) groups
 size_differs catalogue whole _ = false
 
 -- 19: the 256th `device` line
@@ -200,18 +233,24 @@ abbrev pub too_many_devices : List Statement → What → Bool
 too_many_devices earlier (Device device model) = nat_le 255 (count_lines is_device_line earlier)
 too_many_devices earlier _ = false
 
--- 19: the 2,048th `link` line of a device
+-- 19: a `link` line brings its device to more than 2,047 links, one for each of its groups
 abbrev pub too_many_links : List Statement → What → Bool
-too_many_links earlier (Link device object group) = nat_le 2047 (count_lines (links_device device.raw) earlier)
+too_many_links earlier (Link device object groups) = nat_lt 2047 (count_links device.raw earlier + length groups)
 too_many_links earlier _ = false
 
--- 20: an `object`, `link`, `flags` or `param` line's address stands in no `device` line
+-- 20: an `object`, `link`, `send`, `flags` or `param` line's address stands in no `device` line
 abbrev pub no_device : List Statement → What → Bool
 no_device whole (Object device n size flags) = not (some_line (declares_device device.raw) whole)
-no_device whole (Link device object group) = not (some_line (declares_device device.raw) whole)
+no_device whole (Link device object groups) = not (some_line (declares_device device.raw) whole)
+no_device whole (Send device object group) = not (some_line (declares_device device.raw) whole)
 no_device whole (Flags device object flags) = not (some_line (declares_device device.raw) whole)
 no_device whole (Param device name value) = not (some_line (declares_device device.raw) whole)
 no_device whole _ = false
+
+-- 22: a `send` line's device, object and group stand in no `link` line; it is told where no other rule refuses the line
+abbrev pub not_linked : List Statement → What → Bool
+not_linked whole (Send device object group) = not (some_line (links_to device.raw object group.raw) whole)
+not_linked whole _ = false
 
 -- the rule of the least number that a line breaks
 unfoldable pub rule_of : List NamedModel → List Statement → List Statement → What → Option Why
@@ -229,7 +268,8 @@ rule_of catalogue earlier whole what =
     else (if too_many_devices earlier what then Some (TooMany 255)
     else (if too_many_links earlier what then Some (TooMany 2047)
     else (if no_device whole what then Some NoDevice
-    else None))))))))))))
+    else (if not_linked whole what then Some NotLinked
+    else None)))))))))))))
 
 abbrev pub broken_at : ℕ → Option Why → Option Refused
 broken_at line None = None

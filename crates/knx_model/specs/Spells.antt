@@ -5,6 +5,8 @@ use Rattle.std.specs.Char.{digit_value}
 use Rattle.std.specs.Str.Parse.{digits_value}
 use Rattle.knx_model.specs.declared.address.GroupAddr.{GroupAddr}
 use Rattle.knx_model.specs.declared.address.IndAddr.{IndAddr}
+use Rattle.knx_model.specs.declared.project.TextVersion.{TextVersion}
+use Rattle.knx_model.specs.declared.project.TextVersion.TheVariants.{Two}
 use Rattle.knx_model.specs.declared.frames.value.Value.{Value}
 use Rattle.knx_model.specs.declared.frames.value.Value.TheVariants.{Short, Long}
 use Rattle.knx_model.specs.Numbers.{is_digit}
@@ -55,6 +57,31 @@ pub record SpellsDigits (base : ℕ) (most : ℕ) (digits : List ℕ) (n : ℕ) 
   pub some : 0 < length digits
   pub short : length digits ≤ most
   pub value : digits_value base digits ≡ n
+
+-- main/sub, of 1 to 3 and of 1 to 4 digits, and not 0/0
+pub record SpellsTwoLevels (word : List ℕ) (g : GroupAddr) : Type 0 where
+  pub main : List ℕ
+  pub sub : List ℕ
+  pub a : ℕ
+  pub b : ℕ
+  pub main_is : SpellsPart 31 main a
+  pub sub_is : SpellsDigits 10 4 sub b
+  pub sub_fits : b ≤ 2047
+  pub joined : word ≡ main ++ 47 ∷ sub
+  pub raw : g.raw ≡ a * 2048 + b
+  pub some : 0 < g.raw
+
+-- one number of 1 to 5 digits, from 1 to 65,535
+pub record SpellsFree (word : List ℕ) (g : GroupAddr) : Type 0 where
+  pub number : SpellsDigits 10 5 word g.raw
+  pub some : 0 < g.raw
+  pub fits : g.raw ≤ 65535
+
+-- a group in a project text of this version
+pub data SpellsGroupBy (version : TextVersion) (word : List ℕ) (g : GroupAddr) : Type 0 where
+  ThreeLevels : SpellsGroup word g → SpellsGroupBy version word g
+  TwoLevels : version ≡ Two → SpellsTwoLevels word g → SpellsGroupBy version word g
+  Free : version ≡ Two → SpellsFree word g → SpellsGroupBy version word g
 
 -- 1 to 10 decimal digits, or 0x and 1 to 8 hexadecimal digits, up to 4,294,967,295
 pub data SpellsNumber (word : List ℕ) (n : ℕ) : Type 0 where

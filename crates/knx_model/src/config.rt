@@ -25,7 +25,7 @@ pub struct ObjSpec {
     pub size: u8,
 }
 
-/// An object that is linked to a group; `sending` is true of the first link of the object.
+/// An object that is linked to a group; `sending` is true of the link to the object's sending address.
 #[derive(Clone, Copy)]
 pub struct LinkSpec {
     pub object: u8,

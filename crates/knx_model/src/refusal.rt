@@ -30,26 +30,30 @@ pub enum Why {
     DuplicateDevice,
     /// A `ga` line's address stands in an earlier one.
     DuplicateGroup,
-    /// A `link` line's group stands in no `ga` line.
+    /// A group of a `link` or `send` line stands in no `ga` line.
     UnknownGroup,
     /// A `device` line's model isn't known.
     UnknownModel,
     /// An `object` line's number stands in an earlier one of its device or in its model.
     DuplicateObject,
-    /// A `link` or `flags` line's object is none of its device.
+    /// A `link`, `send` or `flags` line's object is none of its device.
     UnknownObject,
-    /// A `link` line's device, object and group stand in an earlier one.
+    /// A `link` line's device, object and one of its groups stand in an earlier one, or a group stands twice in the line.
     DuplicateLink,
     /// A `param` line's name isn't a parameter of its device's model.
     UnknownParameter,
     /// A `param` line's value is below the least or above the greatest.
     OutOfRange,
-    /// A `link` line's object has another size than the object of the first `link` line of that group.
+    /// A `link` line's object has another size than the object of the first `link` line of one of its groups.
     SizeDiffers,
     /// There is more of something than its limit.
     TooMany { limit: u32 },
     /// A line's device stands in no `device` line.
     NoDevice,
+    /// A `send` line's device, object and group stand in no `link` line.
+    NotLinked,
+    /// A `version` line isn't the first line with words, or its number isn't 2.
+    BadVersion,
 }
 
 impl Why {
@@ -79,6 +83,8 @@ impl Why {
             Why::SizeDiffers => Some(18),
             Why::TooMany { .. } => Some(19),
             Why::NoDevice => Some(20),
+            Why::NotLinked => Some(22),
+            Why::BadVersion => Some(23),
         }
     }
 
@@ -108,6 +114,8 @@ impl Why {
             Why::SizeDiffers => "SizeDiffers",
             Why::TooMany { .. } => "TooMany",
             Why::NoDevice => "NoDevice",
+            Why::NotLinked => "NotLinked",
+            Why::BadVersion => "BadVersion",
         }
     }
 }

@@ -3,15 +3,17 @@
 ghost use Rattle.std.specs.Prelude.{◌≡◌, ℕ, List, ◌↔◌, ◌==◌, ◌∷◌, ◌<◌, ◌≤◌, ◌%◌, [], MatchOption, IfSome, position};
 ghost use Rattle.std.specs.List.{slice_split, list_all};
 ghost use Rattle.std.specs.Char.{digit_value};
-ghost use Rattle.std.specs.Option.{option_map, option_and_then};
-ghost use Rattle.knx_model.specs.Spells.{SpellsGroup, SpellsDevice};
+ghost use Rattle.std.specs.Option.{option_map, option_and_then, option_or};
+ghost use Rattle.knx_model.specs.Spells.{SpellsGroup, SpellsGroupBy, SpellsDevice};
 ghost use Rattle.knx_model.specs.declared.address.GroupAddr.{GroupAddr};
 ghost use Rattle.knx_model.specs.declared.address.IndAddr.{IndAddr};
-ghost use Rattle.knx_model.specs.Addresses.{three, group_value, ind_value};
-ghost use Rattle.knx_model.specs.Numbers.{part_value};
+ghost use Rattle.knx_model.specs.declared.project.TextVersion.{TextVersion as Version};
+ghost use Rattle.knx_model.specs.Addresses.{three, two, group_value, two_levels_value, free_value, group_by, ind_value};
+ghost use Rattle.knx_model.specs.Numbers.{numeral, part_value, up_to};
 
 use crate::address::{GroupAddr, IndAddr};
-use crate::words::number::part_in;
+use crate::project::TextVersion;
+use crate::words::number::{number_up_to, part_in};
 
 fn place_of(word: &[u8], by: u8) -> Option<usize>
     ensures { result ≡ position (λ b. b == by) word.now }
@@ -75,6 +77,70 @@ pub fn group_in(word: &[u8]) -> Option<GroupAddr>
     Some(GroupAddr { raw: raw as u16 })
 }
 
+/// The numbers of main and sub in a word that is joined of them by a slash.
+fn two_parts(word: &[u8]) -> Option<(u32, u32)>
+    ensures value { result ≡ option_and_then (λ parts. option_and_then (λ a. option_map (λ b. (a, b)) (up_to 2047 (numeral 10 4 parts.1))) (part_value 31 parts.0)) (two (slice_split (λ b. b == 47) word.now)) }
+    ensures within { IfSome result (λ x. (x.0 ≤ 31) × (x.1 ≤ 2047)) }
+{
+    let (main, sub) = cut_at(word, b'/')?;
+    let main = part_in(31, main)?;
+    // A slash in what comes after the first one is no digit.
+    let sub = number_up_to(2047, 4, sub)?;
+    Some((main, sub))
+}
+
+/// The group that a word names in two levels.
+#[tactic(auto, unfolding(crate::specs::Addresses::two_levels_value))]
+fn two_levels_in(word: &[u8]) -> Option<GroupAddr>
+    ensures value { result ≡ two_levels_value word.now }
+    ensures fits { IfSome result (λ g. 0 < g.raw) }
+{
+    let (main, sub) = two_parts(word)?;
+    let raw = main * 2048 + sub;
+    if raw == 0 {
+        return None;
+    }
+    Some(GroupAddr { raw: raw as u16 })
+}
+
+/// The group that a word names by one number.
+#[tactic(auto, unfolding(crate::specs::Addresses::free_value))]
+fn free_in(word: &[u8]) -> Option<GroupAddr>
+    ensures value { result ≡ free_value word.now }
+    ensures fits { IfSome result (λ g. 0 < g.raw) }
+{
+    let raw = number_up_to(65_535, 5, word)?;
+    if raw == 0 {
+        return None;
+    }
+    Some(GroupAddr { raw: raw as u16 })
+}
+
+/// The group that a word names in three levels, in two levels or free.
+fn any_group_in(word: &[u8]) -> Option<GroupAddr>
+    ensures value { result ≡ option_or (group_value word.now) (option_or (two_levels_value word.now) (free_value word.now)) }
+    ensures fits { IfSome result (λ g. 0 < g.raw) }
+{
+    if let Some(group) = group_in(word) {
+        return Some(group);
+    }
+    match two_levels_in(word) {
+        Some(group) => Some(group),
+        None => free_in(word),
+    }
+}
+
+/// The group that a word names in a project text of this version.
+pub fn group_by(version: TextVersion, word: &[u8]) -> Option<GroupAddr>
+    ensures value { result ≡ group_by version word.now }
+    ensures fits { IfSome result (λ g. 0 < g.raw) }
+{
+    match version {
+        TextVersion::One => group_in(word),
+        TextVersion::Two => any_group_in(word),
+    }
+}
+
 /// The device that a word names; none for a word that isn't an individual address with a device from 1 to 254.
 pub fn ind_of(word: &str) -> Option<IndAddr>
     ensures { result ≡ ind_value word.now }
@@ -92,6 +158,11 @@ pub fn group_of(word: &str) -> Option<GroupAddr>
 /// What `group_in` reads is just what the grammar spells.
 pub fn group_spelled()
     ensures { (word : List ℕ) (g : GroupAddr) → (group_value word ≡ Some g) ↔ SpellsGroup word g }
+{}
+
+/// What `group_by` reads is just what the grammar of each version spells.
+pub fn group_by_spelled()
+    ensures { (version : Version) (word : List ℕ) (g : GroupAddr) → (group_by version word ≡ Some g) ↔ SpellsGroupBy version word g }
 {}
 
 /// What `ind_in` reads is just what the grammar spells.

@@ -2,7 +2,7 @@
 
 ghost use Rattle.std.specs.Prelude.{◌≡◌, ℕ, ◌≤◌, ◌↔◌, List, [], ◌∷◌, Some, IfSome};
 ghost use Rattle.std.specs.Char.{digit_value};
-ghost use Rattle.knx_model.specs.Numbers.{numeral, number_value, part_value};
+ghost use Rattle.knx_model.specs.Numbers.{numeral, number_value, part_value, up_to};
 ghost use Rattle.knx_model.specs.Spells.{SpellsNumber};
 
 /// What a digit is worth in a base up to 36, or 36 for what is none.
@@ -92,6 +92,20 @@ pub fn number_in(word: &[u8]) -> Option<u32>
         _ => numeral(10, 10, word)?,
     };
     if number <= 0xFFFF_FFFF {
+        Some(number as u32)
+    } else {
+        None
+    }
+}
+
+/// The number that 1 to `digits` decimal digits write, up to `most`.
+pub fn number_up_to(most: u32, digits: usize, word: &[u8]) -> Option<u32>
+    requires { digits ≤ 10 }
+    ensures value { result ≡ up_to most (numeral 10 digits word.now) }
+    ensures within { IfSome result (λ n. n ≤ most) }
+{
+    let number = numeral(10, digits, word)?;
+    if number <= u64::from(most) {
         Some(number as u32)
     } else {
         None

@@ -2,15 +2,16 @@
 
 ghost use Rattle.std.specs.Prelude.{◌≡◌, ◌<◌, ◌%◌, ◌∷◌, [], IfOk, IfErr, IsTrue, bytes_eq};
 ghost use Rattle.knx_model.specs.Words.{words, is_text};
-ghost use Rattle.knx_model.specs.Addresses.{group_value, ind_value};
+ghost use Rattle.knx_model.specs.Addresses.{group_value, group_by, ind_value};
 ghost use Rattle.knx_model.specs.Answers.{Answers};
 ghost use Rattle.knx_model.specs.LeastLine.{line_text};
 ghost use Rattle.knx_model.specs.Statements.{field, ended};
 ghost use Rattle.knx_model.specs.declared.refusal.Why.TheVariants.{BadAddress, MissingWord, NoMemory as OutOfMemory};
 
 use crate::address::{GroupAddr, IndAddr};
+use crate::project::TextVersion;
 use crate::refusal::{Refused, Why};
-use crate::words::address::{group_in, ind_in};
+use crate::words::address::{group_by, group_in, ind_in};
 use crate::words::cut::first_word;
 use crate::words::line::{is_text, without_comment};
 
@@ -56,6 +57,16 @@ pub fn group_field(rest: &[u8]) -> Result<(GroupAddr, &[u8]), Why>
 {
     let (word, rest) = next_field(rest)?;
     let group = group_in(word).ok_or(Why::BadAddress)?;
+    Ok((group, rest))
+}
+
+/// A group address as a project text of this version writes it, and the words after it.
+pub fn group_field_by(version: TextVersion, rest: &[u8]) -> Result<(GroupAddr, &[u8]), Why>
+    ensures read { Answers (λ x. (x.0, words x.1.now)) result (field (group_by version) BadAddress (words rest.now)) }
+    ensures fits { IfOk result (λ x. 0 < x.0.raw) }
+{
+    let (word, rest) = next_field(rest)?;
+    let group = group_by(version, word).ok_or(Why::BadAddress)?;
     Ok((group, rest))
 }
 
