@@ -1,7 +1,10 @@
 pub mod Again
 pub mod Flags
+pub mod FirstLine
+pub mod LinkGroups
 pub mod Lengths
 pub mod Plain
+pub mod Printed
 pub mod Spelling
 pub mod Steps
 pub mod Misfits

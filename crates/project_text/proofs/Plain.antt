@@ -69,6 +69,17 @@ group_word g lt =
     let s = short_three 47 (g.raw / 2048) (g.raw / 256 % 8) (g.raw % 256) (omega arith) (omega arith) (omega arith) in
     record { plain = plain_three 47 refl (g.raw / 2048) (g.raw / 256 % 8) (g.raw % 256) (omega arith) (omega arith) (omega arith); some = s.0; short = omega (arith, s.1) }
 
+-- each of the three numbers of a group has at most 3 digits
+pub short_group_text : (g : GroupAddr) → g.raw < 65536 → length (group_text g) ≤ 11
+short_group_text g lt =
+    let a = g.raw / 2048 in
+    let b = g.raw / 256 % 8 in
+    let d = g.raw % 256 in
+    let d1 : length (decimal a) ≤ 3 = length-decimal-le 3 a (omega arith) (omega arith) (omega arith) in
+    let d2 : length (decimal b) ≤ 3 = length-decimal-le 3 b (omega arith) (omega arith) (omega arith) in
+    let d3 : length (decimal d) ≤ 3 = length-decimal-le 3 d (omega arith) (omega arith) (omega arith) in
+    omega (arith, length-append (decimal a) (47 ∷ (decimal b ++ (47 ∷ decimal d))), length-append (decimal b) (47 ∷ decimal d), d1, d2, d3)
+
 pub device_word : (d : IndAddr) → d.raw < 65536 → IsShortWord 32 (device_text d)
 device_word d lt =
     let s = short_three 46 (d.raw / 4096) (d.raw / 256 % 16) (d.raw % 256) (omega arith) (omega arith) (omega arith) in

@@ -1,15 +1,19 @@
 //! The words of a statement, each read as its place wants.
 
 ghost use Rattle.std.specs.Prelude.{◌≡◌, ◌<◌, ◌%◌, IfSome, IfOk, IsTrue};
-ghost use Rattle.knx_model.specs.Answers.{Answers};
+ghost use Rattle.knx_model.specs.Answers.{Answers, AnswersUnless};
 ghost use Rattle.knx_model.specs.Words.{words};
 ghost use Rattle.knx_model.specs.Numbers.{is_name, number_value};
 ghost use Rattle.knx_model.specs.Flags.{flags_value};
 ghost use Rattle.knx_model.specs.Sizes.{size_value};
-ghost use Rattle.knx_model.specs.Statements.{field, object_value, name_value};
-ghost use Rattle.knx_model.specs.declared.refusal.Why.TheVariants.{BadNumber, BadName};
+ghost use Rattle.knx_model.specs.Statements.{field, object_value, name_value, most_groups, some_groups, are_groups};
+ghost use Rattle.knx_model.specs.declared.refusal.Why.TheVariants.{BadNumber, BadName, NoMemory as OutOfMemory};
 
-use knx_model::{Name, Why, flags_in, next_field, number_in, size_code_in};
+use knx_model::{
+    Groups, Name, TextVersion, Why, first_word, flags_in, group_by, group_field_by, next_field,
+    number_in, size_code_in,
+};
+use std::alloc::Global;
 
 fn object_number_in(word: &[u8]) -> Option<u8>
     ensures value { result ≡ object_value word.now }
@@ -71,4 +75,32 @@ pub fn name_field(rest: &[u8]) -> Result<(Name<'_>, &[u8]), Why>
     let (word, rest) = next_field(rest)?;
     let name = Name::of(word).ok_or(Why::BadName)?;
     Ok((name, rest))
+}
+
+/// How many groups a `link` line may have.
+pub fn most_groups(version: TextVersion) -> usize
+    ensures { result ≡ most_groups version }
+{
+    match version {
+        TextVersion::One => 1,
+        TextVersion::Two => 32,
+    }
+}
+
+/// The groups of a `link` line: all words that are left, at least one and at most as many as the version lets a line have.
+pub fn groups_in(alloc: Global, version: TextVersion, all: &[u8]) -> Result<Groups, Why>
+    ensures read { AnswersUnless (λ why. why ≡ OutOfMemory tt) (λ groups. groups) result (some_groups version (words all.now)) }
+    ensures fits { IfOk result (λ groups. IsTrue (are_groups version groups)) }
+{
+    let (first, mut rest) = group_field_by(version, all)?;
+    let mut groups = Groups::one(alloc, first);
+    while let Some((word, after)) = first_word(rest) {
+        if groups.as_slice().len() >= most_groups(version) {
+            return Err(Why::ExtraWord);
+        }
+        let group = group_by(version, word).ok_or(Why::BadAddress)?;
+        groups.push(group)?;
+        rest = after;
+    }
+    Ok(groups)
 }

@@ -2,14 +2,18 @@
 #![tactic(auto)]
 
 mod fields;
+mod grammar;
 mod laws;
 mod line;
 mod print;
 mod project;
 mod read;
 
-pub use knx_model::{Refused, Statement, What, Why};
-pub use laws::{first_misfit, least_line, printed_again, statement_spelled, words_too_many_or_few};
+pub use knx_model::{Groups, Refused, Statement, TextVersion, What, Why};
+pub use laws::{
+    first_misfit, least_line, printed_again, statement_spelled, version_by_first_line,
+    words_too_many_or_few,
+};
 pub use print::print_project;
 pub use project::Project;
 pub use read::{read_project, read_project_in_threads};

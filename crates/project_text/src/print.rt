@@ -1,9 +1,10 @@
 //! Statements are printed, one in a line.
 
-ghost use Rattle.std.specs.Prelude.{◌≡◌, ◌≤◌, ◌++◌, length, OnOk, IfOk, Ok};
-ghost use Rattle.std.specs.List.{join_with_byte};
+ghost use Rattle.std.specs.Prelude.{◌≡◌, ◌≤◌, ◌∷◌, ◌++◌, length, OnOk, IfOk, Ok};
+ghost use Rattle.std.specs.List.{join_with_byte, flat_map};
+ghost use Rattle.knx_model.specs.Addresses.{group_text};
 ghost use Rattle.knx_model.specs.Statements.{reading};
-ghost use Rattle.knx_model.specs.declared.project.What.TheVariants.{Title, Group, Device, Object, Link, Flags, Param};
+ghost use Rattle.knx_model.specs.declared.project.What.TheVariants.{Version, Title, Group, Device, Object, Link, Send, Flags, Param};
 ghost use Rattle.project_text.specs.Printing.{words_of, line_text, printed, renumbered_from};
 
 use crate::project::Project;
@@ -12,6 +13,12 @@ use knx_model::{
     put_flags_word, put_group_word, put_number_word, put_word,
 };
 use std::alloc::Global;
+
+fn put_version(out: &mut Octets) -> Result<(), NoMemory>
+    ensures { OnOk result (out.new ≡ out.old ++ join_with_byte 32 (words_of Version)) }
+{
+    out.append(b"version 2")
+}
 
 fn put_title(out: &mut Octets, name: &[u8]) -> Result<(), NoMemory>
     ensures { OnOk result (out.new ≡ out.old ++ join_with_byte 32 (words_of (Title name.now))) }
@@ -58,16 +65,41 @@ fn put_object(
     put_flags_word(alloc, out, flags)
 }
 
+/// Appends groups, each behind a space.
+fn put_groups(alloc: Global, out: &mut Octets, groups: &[GroupAddr]) -> Result<(), NoMemory>
+    ensures { OnOk result (out.new ≡ out.old ++ flat_map (λ g. 32 ∷ group_text g) groups.now) }
+{
+    for group in groups {
+        put_group_word(alloc, out, *group)?;
+    }
+    Ok(())
+}
+
 fn put_link(
+    alloc: Global,
+    out: &mut Octets,
+    device: IndAddr,
+    object: u8,
+    groups: &[GroupAddr],
+) -> Result<(), NoMemory>
+    ensures { OnOk result (out.new ≡ out.old ++ join_with_byte 32 (words_of (Link device object groups.now))) }
+{
+    out.append(b"link")?;
+    put_device_word(alloc, out, device)?;
+    put_number_word(alloc, out, u64::from(object))?;
+    put_groups(alloc, out, groups)
+}
+
+fn put_send(
     alloc: Global,
     out: &mut Octets,
     device: IndAddr,
     object: u8,
     group: GroupAddr,
 ) -> Result<(), NoMemory>
-    ensures { OnOk result (out.new ≡ out.old ++ join_with_byte 32 (words_of (Link device object group))) }
+    ensures { OnOk result (out.new ≡ out.old ++ join_with_byte 32 (words_of (Send device object group))) }
 {
-    out.append(b"link")?;
+    out.append(b"send")?;
     put_device_word(alloc, out, device)?;
     put_number_word(alloc, out, u64::from(object))?;
     put_group_word(alloc, out, group)
@@ -108,6 +140,7 @@ fn put_words(alloc: Global, out: &mut Octets, what: &What<'_>) -> Result<(), NoM
     ensures { OnOk result (out.new ≡ out.old ++ join_with_byte 32 (words_of what.now)) }
 {
     match what {
+        What::Version => put_version(out),
         What::Title(name) => put_title(out, name.as_slice()),
         What::Group { group, name } => put_ga(alloc, out, *group, name.as_slice()),
         What::Device { device, model } => put_device_line(alloc, out, *device, model.as_slice()),
@@ -120,8 +153,13 @@ fn put_words(alloc: Global, out: &mut Octets, what: &What<'_>) -> Result<(), NoM
         What::Link {
             device,
             object,
+            groups,
+        } => put_link(alloc, out, *device, *object, groups.as_slice()),
+        What::Send {
+            device,
+            object,
             group,
-        } => put_link(alloc, out, *device, *object, *group),
+        } => put_send(alloc, out, *device, *object, *group),
         What::Flags {
             device,
             object,

@@ -10,10 +10,12 @@ ghost use Rattle.knx_model.specs.Words.{is_feed};
 ghost use Rattle.knx_model.specs.declared.refusal.Why.TheVariants.{NoMemory as OutOfMemory};
 ghost use Rattle.project_text.specs.Reading.{IsJoined, IsRead};
 
+use crate::grammar::grammar_of;
 use crate::line::line_in;
 use crate::project::Project;
 use knx_model::{
-    LONGEST_TEXT, List, NoMemory, Refused, Statement, Why, first_line, has_plain_lines, refused_at,
+    Grammar, LONGEST_TEXT, List, NoMemory, Refused, Statement, Why, first_line, has_plain_lines,
+    refused_at,
 };
 use memchr::memrchr;
 use std::alloc::Global;
@@ -39,17 +41,22 @@ fn fits(octets: &[u8]) -> Result<(), Refused>
     Ok(())
 }
 
-/// The statements of lines that are numbered from `first`; or the first line that breaks a rule, and the rule.
-fn read_lines(alloc: Global, first: u32, octets: &[u8]) -> Result<List<Statement<'_>>, Refused>
+/// The statements of lines of a text of this grammar, numbered from `first`; or the first line that breaks a rule, and the rule.
+fn read_lines(
+    alloc: Global,
+    grammar: Grammar,
+    first: u32,
+    octets: &[u8],
+) -> Result<List<Statement<'_>>, Refused>
     requires { first + length octets.now ≤ 4194305 }
-    ensures { IsRead first octets.now result }
+    ensures { IsRead grammar first octets.now result }
 {
     let mut statements = List::new(alloc);
     let is_plain = has_plain_lines(octets);
     let mut line = first;
     let mut rest = octets;
     while let Some((text, after)) = first_line(rest) {
-        if let Err(why) = line_in(&mut statements, line, text, is_plain) {
+        if let Err(why) = line_in(alloc, grammar, &mut statements, line, text, is_plain) {
             return Err(refused_at(line, why));
         }
         line += 1;
@@ -104,29 +111,30 @@ fn joined<'a>(
 fn read_parts<'a, R: Threads + Sync>(
     rt: &R,
     alloc: Global,
+    grammar: Grammar,
     first: u32,
     octets: &'a [u8],
 ) -> Result<List<Statement<'a>>, Refused>
     requires { first + length octets.now ≤ 4194305 }
-    ensures { IsRead first octets.now result }
+    ensures { IsRead grammar first octets.now result }
 {
     if octets.len() <= LONGEST_PART {
-        return read_lines(alloc, first, octets);
+        return read_lines(alloc, grammar, first, octets);
     }
     let Some((front, back)) = halves(octets) else {
-        return read_lines(alloc, first, octets);
+        return read_lines(alloc, grammar, first, octets);
     };
     let behind = first + feeds_in(front) as u32;
     let (said, later) = join(
         rt,
         || -> Result<List<Statement<'_>>, Refused>
             requires { IsSync R.row × (first + length front.now ≤ 4194305) }
-            ensures { IsRead first front.entry.now result }
-        { read_parts(rt, alloc, first, front) },
+            ensures { IsRead grammar first front.entry.now result }
+        { read_parts(rt, alloc, grammar, first, front) },
         || -> Result<List<Statement<'_>>, Refused>
             requires { IsSync R.row × (behind + length back.now ≤ 4194305) }
-            ensures { IsRead behind back.entry.now result }
-        { read_parts(rt, alloc, behind, back) },
+            ensures { IsRead grammar behind back.entry.now result }
+        { read_parts(rt, alloc, grammar, behind, back) },
     );
     joined(said, later)
 }
@@ -139,7 +147,8 @@ pub fn read_project(alloc: Global, octets: &[u8]) -> Result<Project<'_>, Refused
     ensures memory { IfErr result (λ e. e.why ≡ OutOfMemory tt → e.line ≡ 0) }
 {
     fits(octets)?;
-    match read_lines(alloc, 1, octets) {
+    let grammar = grammar_of(octets);
+    match read_lines(alloc, grammar, 1, octets) {
         Ok(statements) => Ok(Project { statements }),
         Err(refused) => Err(refused),
     }
@@ -155,7 +164,8 @@ pub fn read_project_in_threads<'a, R: Threads + Sync>(
     ensures memory { IfErr result (λ e. e.why ≡ OutOfMemory tt → e.line ≡ 0) }
 {
     fits(octets)?;
-    match read_parts(rt, alloc, 1, octets) {
+    let grammar = grammar_of(octets);
+    match read_parts(rt, alloc, grammar, 1, octets) {
         Ok(statements) => Ok(Project { statements }),
         Err(refused) => Err(refused),
     }
