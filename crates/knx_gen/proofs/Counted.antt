@@ -1,5 +1,5 @@
 -- How many lines of a kind a project has that a number makes.
-use Rattle.std.proofs.Common.{◌≡◌, ℕ, zero, suc, ◌+◌, ◌-◌, ◌*◌, ◌<◌, ◌≤◌, Bool, cond, codes, eqb, List, [], ◌∷◌, ◌++◌, length, map, refl, ap, ◌∙◌, arith, inl, inr, length-append}
+use Rattle.std.proofs.Common.{◌≡◌, ℕ, zero, suc, ◌+◌, ◌-◌, ◌*◌, ◌<◌, ◌≤◌, Bool, true, false, cond, codes, eqb, List, [], ◌∷◌, ◌++◌, length, map, refl, ap, ◌∙◌, arith, inl, inr, length-append}
 use Rattle.std.specs.List.{range_with_len, flat_map, count_by, filter_map}
 use Rattle.std.proofs.lemmas.Bool.{cases_eq, eq-eqb, ne_eqb}
 use Rattle.std.proofs.lemmas.List.Concat.{flat_map_single}
@@ -8,11 +8,21 @@ use Rattle.std.proofs.lemmas.List.FromFn.{length-map-range_with_len}
 use Rattle.std.proofs.lemmas.List.Sums.{sum_by-cons, sum_by-append}
 use Rattle.knx_model.specs.declared.address.IndAddr.{IndAddr}
 use Rattle.knx_model.specs.declared.project.What.{What}
-use Rattle.knx_model.specs.declared.project.What.TheVariants.{Device}
-use Rattle.knx_model.specs.Rules.{device_in, is_device_line, is_object_line, is_link_line, links_device}
+use Rattle.knx_model.specs.declared.project.What.TheVariants.{Device, Link}
+use Rattle.knx_model.specs.Rules.{device_in, is_device_line, is_object_line}
 use Rattle.knx_gen.specs.Draws.{state_at, number_at}
 use Rattle.knx_gen.specs.Generated.{group_line, group_lines, device_at, object_line, object_lines, link_line, link_lines, first_group, chosen_links, object_links, device_lines, nth_device_lines, all_device_lines, project_lines}
 use Rattle.knx_gen.proofs.Each.{count_each, count_map, length_each, picked_each, picked_none}
+
+-- ---- lines of a kind
+
+abbrev pub is_link_line : What → Bool
+is_link_line (Link device object groups) = true
+is_link_line _ = false
+
+abbrev pub links_device : ℕ → What → Bool
+links_device d (Link device object groups) = eqb device.raw d
+links_device d _ = false
 
 -- ---- all lines
 

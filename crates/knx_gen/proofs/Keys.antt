@@ -1,11 +1,12 @@
 -- The lines of a project that a number makes ascend by a key, so no line says again what an earlier one says.
-use Rattle.std.proofs.Common.{◌≡◌, ℕ, zero, suc, ◌+◌, ◌*◌, ◌<◌, ◌≤◌, Bool, true, false, ◌&&◌, eqb, List, [], ◌∷◌, ◌++◌, map, refl, ap, subst, arith}
-use Rattle.std.specs.List.{range_with_len, flat_map, list_any}
+use Rattle.std.proofs.Common.{◌≡◌, ℕ, zero, suc, ◌+◌, ◌*◌, ◌<◌, ◌≤◌, Bool, true, false, ◌&&◌, ◌||◌, eqb, List, [], ◌∷◌, ◌++◌, map, refl, sym, ap, ◌∙◌, subst, arith}
+use Rattle.std.specs.List.{range_with_len, flat_map, list_any, AllByRecursion}
+use Rattle.std.proofs.Math.Bool.{or-false}
 use Rattle.std.proofs.lemmas.Bool.{and_parts, eqb-true, or_from, false_from_ne_true}
 use Rattle.std.proofs.lemmas.List.Concat.{flat_map_single}
 use Rattle.knx_model.specs.declared.address.IndAddr.{IndAddr}
 use Rattle.knx_model.specs.declared.project.What.{What}
-use Rattle.knx_model.specs.declared.project.What.TheVariants.{Title, Group, Device, Object, Link, Flags, Param}
+use Rattle.knx_model.specs.declared.project.What.TheVariants.{Version, Title, Group, Device, Object, Link, Send, Flags, Param}
 use Rattle.knx_model.specs.Rules.{declares_device, declares_group, declares_object, links_to}
 use Rattle.knx_gen.specs.Draws.{number_at}
 use Rattle.knx_gen.specs.Generated.{group_line, group_lines, device_at, object_line, object_lines, link_line, link_lines, first_group, chosen_links, object_links, device_lines, nth_device_lines, all_device_lines, project_lines}
@@ -15,7 +16,7 @@ abbrev pub key : What → ℕ
 key (Group group name) = group.raw
 key (Device device model) = device.raw * 32768
 key (Object device n size flags) = device.raw * 32768 + n
-key (Link device object group) = device.raw * 32768 + object * 2048 + group.raw
+key (Link device object (group ∷ groups)) = device.raw * 32768 + object * 2048 + group.raw
 key _ = 0
 
 -- each key is above the one before; the first is at least `low`, and the last below `high`
@@ -109,11 +110,11 @@ pub before_below : (low high : ℕ) (before : List What) (what : What) (after : 
 before_below low high [] what after up = tt
 before_below low high (x ∷ xs) what after up = (omega (arith, from_first (key x + 1) high xs what after up.1), before_below (key x + 1) high xs what after up.1)
 
--- a test that just a line of this key may pass is passed by no line below it
-pub none_below : (test : What → Bool) (k : ℕ) → ((what : What) → test what ≡ true → key what ≡ k) → (whats : List What) → KeysBelow k whats → list_any test whats ≡ false
-none_below test k tells [] below = refl
-none_below test k tells (what ∷ whats) below =
-    or_from (test what) (list_any test whats) (false_from_ne_true (test what) (λ e. omega (arith, tells what e, below.0))) (none_below test k tells whats below.1)
+-- a test that, of lines of a kind, just one of this key may pass is passed by no line of the kind below it
+pub none_below : (kind : What → Type 0) (test : What → Bool) (k : ℕ) → ((what : What) → kind what → test what ≡ true → key what ≡ k) → (whats : List What) → AllByRecursion kind whats → KeysBelow k whats → list_any test whats ≡ false
+none_below kind test k tells [] all below = refl
+none_below kind test k tells (what ∷ whats) all below =
+    or_from (test what) (list_any test whats) (false_from_ne_true (test what) (λ e. omega (arith, tells what all.0 e, below.0))) (none_below kind test k tells whats all.1 below.1)
 
 -- ---- tests that tell the key
 
@@ -122,7 +123,9 @@ group_key g (Group group name) e = eqb-true group.raw g e
 group_key g (Title name) e = absurd (cc)
 group_key g (Device device model) e = absurd (cc)
 group_key g (Object device n size flags) e = absurd (cc)
-group_key g (Link device object group) e = absurd (cc)
+group_key g (Link device object groups) e = absurd (cc)
+group_key g Version e = absurd (cc)
+group_key g (Send device object group) e = absurd (cc)
 group_key g (Flags device object flags) e = absurd (cc)
 group_key g (Param device name value) e = absurd (cc)
 
@@ -131,7 +134,9 @@ device_key d (Device device model) e = omega (arith, eqb-true device.raw d e)
 device_key d (Title name) e = absurd (cc)
 device_key d (Group group name) e = absurd (cc)
 device_key d (Object device n size flags) e = absurd (cc)
-device_key d (Link device object group) e = absurd (cc)
+device_key d (Link device object groups) e = absurd (cc)
+device_key d Version e = absurd (cc)
+device_key d (Send device object group) e = absurd (cc)
 device_key d (Flags device object flags) e = absurd (cc)
 device_key d (Param device name value) e = absurd (cc)
 
@@ -140,18 +145,30 @@ object_key d n (Object device number size flags) e = let h = and_parts (eqb devi
 object_key d n (Title name) e = absurd (cc)
 object_key d n (Group group name) e = absurd (cc)
 object_key d n (Device device model) e = absurd (cc)
-object_key d n (Link device object group) e = absurd (cc)
+object_key d n (Link device object groups) e = absurd (cc)
+object_key d n Version e = absurd (cc)
+object_key d n (Send device object group) e = absurd (cc)
 object_key d n (Flags device object flags) e = absurd (cc)
 object_key d n (Param device name value) e = absurd (cc)
 
-pub link_key : (d n g : ℕ) (what : What) → links_to d n g what ≡ true → key what ≡ d * 32768 + n * 2048 + g
-link_key d n g (Link device object group) e =
-    let h = and_parts (eqb device.raw d && eqb object n) (eqb group.raw g) e in
+-- a line that links to one group at most
+abbrev pub IsSingle : What → Type 0
+IsSingle (Link device object (group ∷ [])) = Unit {0}
+IsSingle (Link device object groups) = ⊥
+IsSingle _ = Unit {0}
+
+pub link_key : (d n g : ℕ) (what : What) → IsSingle what → links_to d n g what ≡ true → key what ≡ d * 32768 + n * 2048 + g
+link_key d n g (Link device object []) is e = absurd is
+link_key d n g (Link device object (group ∷ [])) is e =
+    let h = and_parts (eqb device.raw d && eqb object n) (eqb group.raw g || false) e in
     let k = and_parts (eqb device.raw d) (eqb object n) h.0 in
-    omega (arith, eqb-true device.raw d k.0, eqb-true object n k.1, eqb-true group.raw g h.1)
-link_key d n g (Title name) e = absurd (cc)
-link_key d n g (Group group name) e = absurd (cc)
-link_key d n g (Device device model) e = absurd (cc)
-link_key d n g (Object device number size flags) e = absurd (cc)
-link_key d n g (Flags device object flags) e = absurd (cc)
-link_key d n g (Param device name value) e = absurd (cc)
+    omega (arith, eqb-true device.raw d k.0, eqb-true object n k.1, eqb-true group.raw g (sym (or-false (eqb group.raw g)) ∙ h.1))
+link_key d n g (Link device object (group ∷ other ∷ groups)) is e = absurd is
+link_key d n g (Title name) is e = absurd (cc)
+link_key d n g (Group group name) is e = absurd (cc)
+link_key d n g (Device device model) is e = absurd (cc)
+link_key d n g (Object device number size flags) is e = absurd (cc)
+link_key d n g Version is e = absurd (cc)
+link_key d n g (Send device object group) is e = absurd (cc)
+link_key d n g (Flags device object flags) is e = absurd (cc)
+link_key d n g (Param device name value) is e = absurd (cc)

@@ -1,5 +1,5 @@
 -- What a line of a project that a number makes speaks of is declared in the project.
-use Rattle.std.proofs.Common.{◌≡◌, ℕ, ◌+◌, ◌*◌, ◌-◌, ◌<◌, ◌≤◌, Bool, true, codes, eqb, List, ◌++◌, All, refl, ◌∙◌, arith}
+use Rattle.std.proofs.Common.{◌≡◌, ℕ, ◌+◌, ◌*◌, ◌-◌, ◌<◌, ◌≤◌, Bool, true, codes, eqb, List, [], ◌∷◌, ◌++◌, All, refl, ◌∙◌, arith}
 use Rattle.std.specs.List.{list_any}
 use Rattle.std.proofs.lemmas.Bool.{and_from, eq-eqb, or_left, or_right}
 use Rattle.std.proofs.lemmas.List.Elements.{All-cons, All-append}
@@ -18,12 +18,12 @@ pub record IsLinkKnown (whole : List What) (device object group : ℕ) : Type 0 
   pub object_is : list_any (declares_object device object) whole ≡ true
   pub group_is : list_any (declares_group group) whole ≡ true
 
--- what a line speaks of is declared; devices have no model, and objects one bit
+-- what a line speaks of is declared; devices have no model, objects one bit, and lines one link
 abbrev pub IsKnown : List What → What → Type 0
 IsKnown whole (Group group name) = Unit {0}
 IsKnown whole (Device device model) = model ≡ codes "inline"
 IsKnown whole (Object device n size flags) = (size ≡ 0) × (list_any (declares_device device.raw) whole ≡ true)
-IsKnown whole (Link device object group) = IsLinkKnown whole device.raw object group.raw
+IsKnown whole (Link device object (group ∷ [])) = IsLinkKnown whole device.raw object group.raw
 IsKnown whole _ = ⊥
 
 -- ---- what is declared

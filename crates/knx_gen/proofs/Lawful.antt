@@ -8,6 +8,7 @@ use Rattle.std.proofs.lemmas.Fmt.{decimal_digit}
 use Rattle.std.proofs.lemmas.List.FromFn.{length-map-range_with_len, get_or-map-range_with_len}
 use Rattle.std.proofs.lemmas.List.Sorted.{IsPermutation-refl}
 use Rattle.std.proofs.lemmas.List.Sums.{sum_by-cons}
+use Rattle.std.proofs.lemmas.List.Elements.{recursion_from_All}
 use Rattle.knx_model.specs.declared.address.IndAddr.{IndAddr}
 use Rattle.knx_model.specs.declared.catalogue.model.Model.{Model}
 use Rattle.knx_model.specs.declared.catalogue.model.NamedModel.{NamedModel}
@@ -15,14 +16,14 @@ use Rattle.knx_model.specs.declared.counts.Counts.{Counts}
 use Rattle.knx_model.specs.Addresses.{device_text}
 use Rattle.knx_model.specs.Counts.{counts_of, model_objects}
 use Rattle.knx_model.specs.Meaning.{or_inline}
-use Rattle.knx_model.specs.Rules.{devices_of, is_object_line, is_link_line, model_of}
+use Rattle.knx_model.specs.Rules.{devices_of, is_object_line, model_of}
 use Rattle.project_check.specs.Devices.{IsChecked, raw_of}
 use Rattle.knx_gen.specs.Generated.{device_at, project_lines, generated}
 use Rattle.knx_gen.proofs.Counted.{count_device_lines, count_object_lines, count_link_lines, few_links, devices_picked}
 use Rattle.knx_gen.proofs.Keys.{lines_ascend}
-use Rattle.knx_gen.proofs.Known.{lines_known}
+use Rattle.knx_gen.proofs.Known.{IsKnown, lines_known}
 use Rattle.knx_gen.proofs.Numbered.{count_is, devices_are}
-use Rattle.knx_gen.proofs.Unbroken.{AreLawful, Empty, empty_model, none_broken}
+use Rattle.knx_gen.proofs.Unbroken.{AreLawful, Empty, empty_model, none_broken, all_links}
 
 lawful : (n start : ℕ) → n ≤ 254 → AreLawful (project_lines n start)
 lawful n start few = record {
@@ -77,7 +78,7 @@ counted n start catalogue few =
     let models = sum_of_none (model_objects (record { statements = generated n start; catalogue = catalogue }))
     (λ device. no_objects (model_of catalogue (generated n start) device.raw) (empty_model catalogue (project_lines n start) device.raw (lawful n start few))) (devices_of (generated n start)) in
     same_counts _ _ _ n (8 * n) (32 * n) (ap length (devices_are_these n start) ∙ length-map-range_with_len device_at 1 n)
-    (omega (arith, count_is is_object_line 1 (project_lines n start), count_object_lines n start, models)) (count_is is_link_line 1 (project_lines n start) ∙ count_link_lines n start)
+    (omega (arith, count_is is_object_line 1 (project_lines n start), count_object_lines n start, models)) (all_links (project_lines n start) 1 (project_lines n start) (recursion_from_All (IsKnown (project_lines n start)) (project_lines n start) (lines_known n start)) ∙ count_link_lines n start)
 
 -- ---- words
 

@@ -1,18 +1,20 @@
 -- The lines of a project that a number makes can be spelled.
-use Rattle.std.proofs.Common.{◌≡◌, ℕ, ◌+◌, ◌*◌, ◌%◌, ◌-◌, ◌<◌, ◌≤◌, true, codes, ltb, leb, List, [], ◌∷◌, ◌++◌, length, All, refl, ◌∙◌, arith}
+use Rattle.std.proofs.Common.{◌≡◌, ℕ, ◌+◌, ◌*◌, ◌%◌, ◌-◌, ◌<◌, ◌≤◌, true, not, codes, ltb, leb, List, [], ◌∷◌, ◌++◌, length, All, refl, ◌∙◌, arith}
 use Rattle.std.specs.List.{list_all}
 use Rattle.std.specs.Fmt.{decimal}
 use Rattle.std.specs.Str.Parse.{AllDigits}
 use Rattle.std.proofs.lemmas.Bool.{and_from, or_left, lt-ltb, le-leb}
 use Rattle.std.proofs.lemmas.Fmt.{decimal_is_IsNumeral, length-decimal-le}
-use Rattle.std.proofs.lemmas.List.Elements.{All-cons, All-append}
+use Rattle.std.proofs.lemmas.List.Elements.{All-cons, All-append, All-weaker}
 use Rattle.std.proofs.lemmas.List.Sums.{list_all-from_AllPass}
 use Rattle.std.proofs.lemmas.Str.Parse.{digit_from_value}
 use Rattle.knx_model.specs.declared.address.IndAddr.{IndAddr}
 use Rattle.knx_model.specs.declared.project.What.{What}
-use Rattle.knx_model.specs.declared.project.What.TheVariants.{Device}
+use Rattle.knx_model.specs.declared.project.What.TheVariants.{Version, Title, Group, Device, Object, Link, Send, Flags, Param}
 use Rattle.knx_model.specs.Numbers.{is_name, is_name_octet}
-use Rattle.knx_model.specs.Statements.{is_group, is_device, is_object, is_spellable, are_spellable, are_numbered}
+use Rattle.knx_model.specs.Statements.{is_group, is_device, is_object, is_spellable, are_spellable, is_version, are_numbered}
+use Rattle.knx_model.specs.declared.project.TextVersion.TheVariants.{One}
+use Rattle.knx_gen.proofs.Known.{IsKnown, lines_known}
 use Rattle.knx_gen.specs.Draws.{state_at, number_at}
 use Rattle.knx_gen.specs.Generated.{group_at, group_name, group_line, group_lines, device_at, object_line, object_lines, link_line, link_lines, first_group, chosen_links, object_links, device_lines, nth_device_lines, all_device_lines, project_lines, generated}
 use Rattle.knx_gen.proofs.Each.{all_each, all_map}
@@ -47,7 +49,7 @@ object_is k low high = and_from (ltb 0 k) (ltb k 256) (lt-ltb 0 k low) (lt-ltb k
 -- ---- lines
 
 abbrev Spelled : What → Type 0
-Spelled what = is_spellable what ≡ true
+Spelled what = is_spellable One what ≡ true
 
 objects_spelled : (device : IndAddr) (count : ℕ) → count ≤ 8 → is_device device ≡ true → All Spelled (object_lines device count)
 unfolding object_lines
@@ -61,7 +63,7 @@ chosen_spelled state device k is low high =
     let some : 1 ≤ first = omega arith in
     let few : first ≤ 2000 = omega arith in
     all_map Spelled (link_line device k) first 4 (λ g from to.
-    and_from _ _ (and_from (is_device device) (is_object k) is (object_is k low high)) (group_is g (omega (arith, some, from)) (omega (arith, few, to))))
+    and_from _ _ (and_from (is_device device) (is_object k) is (object_is k low high)) (and_from _ _ refl (and_from _ _ (group_is g (omega (arith, some, from)) (omega (arith, few, to))) refl)))
 
 links_spelled : (state : ℕ) (device : IndAddr) (count : ℕ) → count ≤ 8 → is_device device ≡ true → All Spelled (object_links state device count)
 unfolding object_links
@@ -87,9 +89,24 @@ lines_spelled n start few = All-append Spelled (group_lines 2003) (all_device_li
 
 -- ---- statements
 
+-- what is known tells no version
+known_tells_none : (whole : List What) (what : What) → IsKnown whole what → not (is_version what) ≡ true
+known_tells_none whole (Group group name) is = refl
+known_tells_none whole (Device device model) is = refl
+known_tells_none whole (Object device n size flags) is = refl
+known_tells_none whole (Link device object groups) is = refl
+known_tells_none whole Version is = absurd is
+known_tells_none whole (Title name) is = refl
+known_tells_none whole (Send device object group) is = refl
+known_tells_none whole (Flags device object flags) is = refl
+known_tells_none whole (Param device name value) is = refl
+
 pub generated_spelled : (n start : ℕ) → n ≤ 254 → are_spellable (generated n start) ≡ true
 unfolding generated
-generated_spelled n start few = spellable_is 1 (project_lines n start) ∙ list_all-from_AllPass is_spellable (project_lines n start) (lines_spelled n start few)
+generated_spelled n start few =
+    let whole = project_lines n start in
+    spellable_is 1 whole (list_all-from_AllPass (is_spellable One) whole (lines_spelled n start few))
+    (list_all-from_AllPass (λ w. not (is_version w)) whole (All-weaker (IsKnown whole) (λ w. not (is_version w) ≡ true) (known_tells_none whole) whole (lines_known n start)))
 
 pub generated_numbered : (n start : ℕ) → are_numbered 0 (generated n start) ≡ true
 unfolding generated

@@ -55,7 +55,7 @@ object_lines device count = map (object_line device) (range_with_len 1 count)
 
 -- `link IA N GA`
 abbrev pub link_line : IndAddr → ℕ → ℕ → What
-link_line device n raw = Link device n (group_at raw)
+link_line device n raw = Link device n (group_at raw ∷ [])
 
 -- an object's links to the groups from a first one on
 unfoldable pub link_lines : IndAddr → ℕ → ℕ → ℕ → List What

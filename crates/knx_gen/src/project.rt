@@ -7,8 +7,8 @@ ghost use Rattle.knx_gen.specs.Generated.{group_lines, device_at, object_lines, 
 use crate::group_names::{GROUPS, GroupNames};
 use crate::numbers::Numbers;
 use knx_model::{
-    COMMUNICATE, GroupAddr, IndAddr, List, Name, NoMemory, PRIORITY, READ, Statement, TRANSMIT,
-    UPDATE, WRITE, What,
+    COMMUNICATE, GroupAddr, Groups, IndAddr, List, Name, NoMemory, PRIORITY, READ, Statement,
+    TRANSMIT, UPDATE, WRITE, What,
 };
 use project_text::Project;
 use std::alloc::Global;
@@ -76,6 +76,7 @@ fn put_objects(lines: &mut List<What<'_>>, device: IndAddr) -> Result<(), NoMemo
 
 /// Appends the links of one object, which begin with this group.
 fn put_links(
+    alloc: Global,
     lines: &mut List<What<'_>>,
     device: IndAddr,
     object: u8,
@@ -89,7 +90,7 @@ fn put_links(
         lines.push(What::Link {
             device,
             object,
-            group,
+            groups: Groups::one(alloc, group),
         })?;
     }
     Ok(())
@@ -97,6 +98,7 @@ fn put_links(
 
 /// Appends the links of a device's objects, each by the next number.
 fn put_object_links(
+    alloc: Global,
     lines: &mut List<What<'_>>,
     numbers: &mut Numbers,
     device: IndAddr,
@@ -106,13 +108,14 @@ fn put_object_links(
 {
     for place in 0..OBJECTS {
         let first = 1 + numbers.draw() % FIRST_GROUPS;
-        put_links(lines, device, place + 1, first as u16)?;
+        put_links(alloc, lines, device, place + 1, first as u16)?;
     }
     Ok(())
 }
 
 /// Appends the lines of a device, whose objects take the next eight numbers.
 fn put_device(
+    alloc: Global,
     lines: &mut List<What<'_>>,
     numbers: &mut Numbers,
     device: IndAddr,
@@ -123,17 +126,22 @@ fn put_device(
     let model = inline_model();
     lines.push(What::Device { device, model })?;
     put_objects(lines, device)?;
-    put_object_links(lines, numbers, device)
+    put_object_links(alloc, lines, numbers, device)
 }
 
 /// Appends the lines of the devices 1.1.1 to 1.1.n.
-fn put_devices(lines: &mut List<What<'_>>, n: u16, start: u64) -> Result<(), NoMemory>
+fn put_devices(
+    alloc: Global,
+    lines: &mut List<What<'_>>,
+    n: u16,
+    start: u64,
+) -> Result<(), NoMemory>
     requires { n ≤ 254 }
     ensures { OnOk result (lines.new ≡ lines.old ++ all_device_lines start n) }
 {
     let mut numbers = Numbers { state: start };
     for before in 0..n {
-        put_device(lines, &mut numbers, device_at(before + 1))?;
+        put_device(alloc, lines, &mut numbers, device_at(before + 1))?;
     }
     Ok(())
 }
@@ -164,7 +172,7 @@ pub fn project_from<'a>(
 {
     let mut lines = List::new(alloc);
     put_groups(&mut lines, names)?;
-    put_devices(&mut lines, n, start)?;
+    put_devices(alloc, &mut lines, n, start)?;
     let statements = numbered(alloc, lines)?;
     Ok(Project { statements })
 }

@@ -13,7 +13,7 @@ use Rattle.knx_model.specs.declared.address.IndAddr.{IndAddr}
 use Rattle.knx_model.specs.declared.catalogue.model.NamedModel.{NamedModel}
 use Rattle.knx_model.specs.declared.project.Statement.{Statement}
 use Rattle.knx_model.specs.declared.project.What.{What}
-use Rattle.knx_model.specs.declared.project.What.TheVariants.{Title, Group, Device, Object, Link, Flags, Param}
+use Rattle.knx_model.specs.declared.project.What.TheVariants.{Version, Title, Group, Device, Object, Link, Send, Flags, Param}
 use Rattle.knx_model.specs.Rules.{first_broken, some_line, declares_device, device_in, devices_of, duplicate_device}
 use Rattle.project_check.specs.Devices.{raw_of, device_order}
 use Rattle.project_check.proofs.Sound.{unbroken_at}
@@ -27,7 +27,9 @@ any_here q (Title name) ss line e = e
 any_here q (Group group name) ss line e = e
 any_here q (Device device model) ss line e = ap (λ b. eqb device.raw q || b) e
 any_here q (Object device n size flags) ss line e = e
-any_here q (Link device object group) ss line e = e
+any_here q (Link device object groups) ss line e = e
+any_here q Version ss line e = e
+any_here q (Send device object group) ss line e = e
 any_here q (Flags device object flags) ss line e = e
 any_here q (Param device name value) ss line e = e
 
@@ -51,7 +53,9 @@ of_kind before (Device device model) line h new =
 of_kind before (Title name) line h new = rw append-nil h
 of_kind before (Group group name) line h new = rw append-nil h
 of_kind before (Object device n size flags) line h new = rw append-nil h
-of_kind before (Link device object group) line h new = rw append-nil h
+of_kind before (Link device object groups) line h new = rw append-nil h
+of_kind before Version line h new = rw append-nil h
+of_kind before (Send device object group) line h new = rw append-nil h
 of_kind before (Flags device object flags) line h new = rw append-nil h
 of_kind before (Param device name value) line h new = rw append-nil h
 

@@ -9,10 +9,10 @@ use Rattle.knx_model.specs.declared.project.Statement.{Statement}
 use Rattle.knx_model.specs.declared.project.What.{What}
 use Rattle.knx_model.specs.declared.refusal.Refused.{Refused}
 use Rattle.knx_model.specs.declared.refusal.Why.{Why}
-use Rattle.knx_model.specs.declared.refusal.Why.TheVariants.{NoMemory, NotText, LongLine, UnknownWord, BadAddress, BadNumber, BadName, MissingWord, ExtraWord, DuplicateDevice, DuplicateGroup, UnknownGroup, UnknownModel, DuplicateObject, UnknownObject, DuplicateLink, UnknownParameter, OutOfRange, SizeDiffers, TooMany, NoDevice}
+use Rattle.knx_model.specs.declared.refusal.Why.TheVariants.{NoMemory, NotText, LongLine, UnknownWord, BadAddress, BadNumber, BadName, MissingWord, ExtraWord, BadVersion, NotLinked, DuplicateDevice, DuplicateGroup, UnknownGroup, UnknownModel, DuplicateObject, UnknownObject, DuplicateLink, UnknownParameter, OutOfRange, SizeDiffers, TooMany, NoDevice}
 use Rattle.knx_model.specs.LeastLine.{first_refused}
 use Rattle.knx_model.specs.Refusal.{why_number}
-use Rattle.knx_model.specs.Rules.{rule_of, broken_at, broken_from, first_broken, duplicate_device, duplicate_group, unknown_group, unknown_model, duplicate_object, unknown_object, duplicate_link, unknown_parameter, out_of_range, size_differs, too_many_devices, too_many_links, no_device}
+use Rattle.knx_model.specs.Rules.{rule_of, broken_at, broken_from, first_broken, duplicate_device, duplicate_group, unknown_group, unknown_model, duplicate_object, unknown_object, duplicate_link, unknown_parameter, out_of_range, size_differs, too_many_devices, too_many_links, no_device, not_linked}
 use Rattle.project_check.specs.Breaking.{Breaks, IsLeastBroken, NoneBreaks}
 
 -- ---- of rules in the order of their numbers, each with whether it is broken, the first that is broken
@@ -96,6 +96,7 @@ rules catalogue before all what =
     ∷ (too_many_devices before what, TooMany 255)
     ∷ (too_many_links before what, TooMany 2047)
     ∷ (no_device all what, NoDevice)
+    ∷ (not_linked all what, NotLinked)
     ∷ []
 
 first_is_rule : (catalogue : List NamedModel) (before all : List Statement) (what : What) → first_of (rules catalogue before all what) ≡ rule_of catalogue before all what
@@ -104,11 +105,11 @@ first_is_rule catalogue before all what = refl
 
 ascending : (catalogue : List NamedModel) (before all : List Statement) (what : What) → Ascend 9 (rules catalogue before all what)
 ascending catalogue before all what =
-    (9, refl, omega arith, (10, refl, omega arith, (11, refl, omega arith, (12, refl, omega arith, (13, refl, omega arith, (14, refl, omega arith, (15, refl, omega arith, (16, refl, omega arith, (17, refl, omega arith, (18, refl, omega arith, (19, refl, omega arith, (19, refl, omega arith, (20, refl, omega arith, tt)))))))))))))
+    (9, refl, omega arith, (10, refl, omega arith, (11, refl, omega arith, (12, refl, omega arith, (13, refl, omega arith, (14, refl, omega arith, (15, refl, omega arith, (16, refl, omega arith, (17, refl, omega arith, (18, refl, omega arith, (19, refl, omega arith, (19, refl, omega arith, (20, refl, omega arith, (22, refl, omega arith, tt))))))))))))))
 
 told_breaks : (catalogue : List NamedModel) (before all : List Statement) (what : What) (why : Why) → Told (rules catalogue before all what) why → Breaks catalogue before all what why
 told_breaks catalogue before all what why told =
-    each_told (λ w. Breaks catalogue before all what w) (rules catalogue before all what) why (λ h. h, (λ h. h, (λ h. h, (λ h. h, (λ h. h, (λ h. h, (λ h. h, (λ h. h, (λ h. h, (λ h. h, (λ h. inl (refl, h), (λ h. inr (refl, h), (λ h. h, tt))))))))))))) told
+    each_told (λ w. Breaks catalogue before all what w) (rules catalogue before all what) why (λ h. h, (λ h. h, (λ h. h, (λ h. h, (λ h. h, (λ h. h, (λ h. h, (λ h. h, (λ h. h, (λ h. h, (λ h. inl (refl, h), (λ h. inr (refl, h), (λ h. h, (λ h. h, tt)))))))))))))) told
 
 breaks_told : (catalogue : List NamedModel) (before all : List Statement) (what : What) (why : Why) → Breaks catalogue before all what why → Told (rules catalogue before all what) why
 breaks_told catalogue before all what DuplicateDevice h = inl (h, refl)
@@ -124,6 +125,7 @@ breaks_told catalogue before all what SizeDiffers h = inr (inr (inr (inr (inr (i
 breaks_told catalogue before all what (TooMany limit) (inl h) = inr (inr (inr (inr (inr (inr (inr (inr (inr (inr (inl (h.1, ap TooMany (sym h.0))))))))))))
 breaks_told catalogue before all what (TooMany limit) (inr h) = inr (inr (inr (inr (inr (inr (inr (inr (inr (inr (inr (inl (h.1, ap TooMany (sym h.0)))))))))))))
 breaks_told catalogue before all what NoDevice h = inr (inr (inr (inr (inr (inr (inr (inr (inr (inr (inr (inr (inl (h, refl)))))))))))))
+breaks_told catalogue before all what NotLinked h = inr (inr (inr (inr (inr (inr (inr (inr (inr (inr (inr (inr (inr (inl (h, refl))))))))))))))
 breaks_told catalogue before all what (NoMemory want) h = absurd h
 breaks_told catalogue before all what NotText h = absurd h
 breaks_told catalogue before all what LongLine h = absurd h
@@ -133,6 +135,7 @@ breaks_told catalogue before all what BadNumber h = absurd h
 breaks_told catalogue before all what BadName h = absurd h
 breaks_told catalogue before all what MissingWord h = absurd h
 breaks_told catalogue before all what ExtraWord h = absurd h
+breaks_told catalogue before all what BadVersion h = absurd h
 
 breaks_none : (catalogue : List NamedModel) (before all : List Statement) (what : What) (why : Why) → rule_of catalogue before all what ≡ None → ¬ Breaks catalogue before all what why
 breaks_none catalogue before all what why e = λ h. none_told (rules catalogue before all what) why (first_is_rule catalogue before all what ∙ e) (breaks_told catalogue before all what why h)

@@ -1,7 +1,8 @@
 -- Lines whose keys lie below a number, of which few have the same key, are few.
-use Rattle.std.proofs.Common.{◌≡◌, ℕ, zero, suc, ◌+◌, ◌*◌, ◌≤◌, Bool, true, false, cond, eqb, ltb, List, [], ◌∷◌, Option, Some, None, refl, ap, arith}
+use Rattle.std.proofs.Common.{◌≡◌, ℕ, zero, suc, ◌+◌, ◌*◌, ◌≤◌, Bool, true, false, cond, eqb, ltb, List, [], ◌∷◌, Option, Some, None, refl, ap, inl, inr, arith}
+use Rattle.std.specs.Prelude.{sum_by}
 use Rattle.std.specs.List.{list_all}
-use Rattle.std.proofs.lemmas.Bool.{and_parts}
+use Rattle.std.proofs.lemmas.Bool.{and_parts, cases_lt, cases_eq, lt-ltb, le-ltb, eq-eqb, ne_eqb}
 use Rattle.std.proofs.lemmas.Bool.Decides.{nat_tests}
 use Rattle.std.proofs.lemmas.List.Sums.{sum_by-cons}
 use Rattle.knx_model.specs.declared.project.Statement.{Statement}
@@ -52,3 +53,35 @@ pub few_below : (key : What → Option ℕ) (m : ℕ) (ss : List Statement) → 
 few_below key m ss few zero = omega (arith, count_none (λ w. is_below (key w) 0) (λ w. none_below (key w)) ss)
 few_below key m ss few (suc k) =
     omega (arith, count_split (λ w. is_below (key w) (suc k)) (λ w. is_below (key w) k) (λ w. is_key (key w) k) (λ w. below_more (key w) k) ss, few_below key m ss few k, few k)
+
+-- ---- the same of lines that weigh more than one
+
+-- what the lines weigh that pass a test
+abbrev pub weigh : (What → Bool) → (What → ℕ) → List Statement → ℕ
+weigh p weight ss = sum_by (λ s. cond (p s.what) (weight s.what) 0) ss
+
+weigh_cons : (p : What → Bool) (weight : What → ℕ) (s : Statement) (ss : List Statement) → weigh p weight (s ∷ ss) ≡ cond (p s.what) (weight s.what) 0 + weigh p weight ss
+weigh_cons p weight s ss = sum_by-cons (λ (t : Statement). cond (p t.what) (weight t.what) 0) s ss
+
+weigh_none : (key : What → Option ℕ) (weight : What → ℕ) (ss : List Statement) → weigh (λ w. is_below (key w) 0) weight ss ≡ 0
+weigh_none key weight [] = refl
+weigh_none key weight (s ∷ ss) = omega (arith, weigh_cons (λ w. is_below (key w) 0) weight s ss, ap (λ (b : Bool). cond b (weight s.what) 0) (none_below (key s.what)), weigh_none key weight ss)
+
+weight_more : (o : Option ℕ) (k n : ℕ) → cond (is_below o (suc k)) n 0 ≡ cond (is_below o k) n 0 + cond (is_key o k) n 0
+weight_more None k n = refl
+weight_more (Some m) k n = elim (cases_lt m k) [
+  | inl lt ↦ rw (lt-ltb m (suc k) (omega (arith, lt)), lt-ltb m k lt, ne_eqb m k (λ q. omega (arith, lt, q))) (omega arith)
+  | inr ge ↦ elim (cases_eq m k) [
+    | inl same ↦ rw (lt-ltb m (suc k) (omega (arith, same)), le-ltb k m ge, eq-eqb m k same) refl
+    | inr other ↦ rw (le-ltb (suc k) m (grind (arith, ge, other)), le-ltb k m ge, ne_eqb m k other) refl
+  ]
+]
+
+weigh_split : (key : What → Option ℕ) (weight : What → ℕ) (k : ℕ) (ss : List Statement) → weigh (λ w. is_below (key w) (suc k)) weight ss ≡ weigh (λ w. is_below (key w) k) weight ss + weigh (λ w. is_key (key w) k) weight ss
+weigh_split key weight k [] = refl
+weigh_split key weight k (s ∷ ss) =
+    omega (arith, weigh_cons (λ w. is_below (key w) (suc k)) weight s ss, weigh_cons (λ w. is_below (key w) k) weight s ss, weigh_cons (λ w. is_key (key w) k) weight s ss, weight_more (key s.what) k (weight s.what), weigh_split key weight k ss)
+
+pub weigh_below : (key : What → Option ℕ) (weight : What → ℕ) (m : ℕ) (ss : List Statement) → ((k : ℕ) → weigh (λ w. is_key (key w) k) weight ss ≤ m) → (top : ℕ) → weigh (λ w. is_below (key w) top) weight ss ≤ m * top
+weigh_below key weight m ss few zero = omega (arith, weigh_none key weight ss)
+weigh_below key weight m ss few (suc k) = omega (arith, weigh_split key weight k ss, weigh_below key weight m ss few k, few k)

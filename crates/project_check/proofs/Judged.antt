@@ -6,7 +6,7 @@ use Rattle.knx_model.specs.declared.catalogue.model.NamedModel.{NamedModel}
 use Rattle.knx_model.specs.declared.project.Statement.{Statement}
 use Rattle.knx_model.specs.declared.project.What.{What}
 use Rattle.knx_model.specs.declared.refusal.Why.{Why}
-use Rattle.knx_model.specs.declared.refusal.Why.TheVariants.{NoMemory, DuplicateDevice, DuplicateGroup, UnknownGroup, UnknownModel, DuplicateObject, UnknownObject, DuplicateLink, UnknownParameter, OutOfRange, SizeDiffers, TooMany, NoDevice}
+use Rattle.knx_model.specs.declared.refusal.Why.TheVariants.{NoMemory, DuplicateDevice, DuplicateGroup, UnknownGroup, UnknownModel, DuplicateObject, UnknownObject, DuplicateLink, UnknownParameter, OutOfRange, SizeDiffers, TooMany, NoDevice, NotLinked}
 use Rattle.std.proofs.lemmas.Option.{same_Some}
 use Rattle.knx_model.specs.Rules.{rule_of, broken_at, broken_from, first_broken}
 use Rattle.project_check.specs.Knowing.{DeclaresAll, Precedes}
@@ -25,7 +25,7 @@ never_memory catalogue before all what why e =
     another _ DuplicateDevice _ why (λ h. cc) (another _ DuplicateGroup _ why (λ h. cc) (another _ UnknownGroup _ why (λ h. cc) (another _ UnknownModel _ why (λ h. cc)
     (another _ DuplicateObject _ why (λ h. cc) (another _ UnknownObject _ why (λ h. cc) (another _ DuplicateLink _ why (λ h. cc) (another _ UnknownParameter _ why (λ h. cc)
     (another _ OutOfRange _ why (λ h. cc) (another _ SizeDiffers _ why (λ h. cc) (another _ (TooMany 255) _ why (λ h. cc) (another _ (TooMany 2047) _ why (λ h. cc)
-    (another _ NoDevice None why (λ h. cc) (λ h. absurd (cc)))))))))))))) (sym e)
+    (another _ NoDevice _ why (λ h. cc) (another _ NotLinked None why (λ h. cc) (λ h. absurd (cc))))))))))))))) (sym e)
 
 -- the first i statements break no rule, and these are known of them and of all
 pub record JudgedTo (catalogue : List NamedModel) (ss : List Statement) (earlier : Earlier) (whole : Whole) (i : ℕ) : Type 0 where

@@ -7,6 +7,7 @@ pub mod Indexed
 pub mod Judged
 pub mod Limits
 pub mod Linked
+pub mod LinkSets
 pub mod Named
 pub mod Ordered
 pub mod Placed

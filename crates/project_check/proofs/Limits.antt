@@ -1,7 +1,10 @@
 -- How many devices, objects and links a text has at most that breaks no rule.
-use Rattle.std.proofs.Common.{◌≡◌, ℕ, zero, suc, ◌+◌, ◌%◌, ◌<◌, ◌≤◌, Bool, true, false, cond, ◌&&◌, ◌||◌, eqb, ltb, leb, List, [], ◌∷◌, ◌++◌, length, get_or, take, Option, Some, None, refl, sym, ap, ◌∙◌, subst, add-one, arith}
-use Rattle.std.specs.Prelude.{is_some, is_none, bytes_eq, nat_lt}
-use Rattle.std.proofs.lemmas.Bool.{and_parts, eqb-true, leb-false, false≢true, false_from_ne_true, not-false, or_from, or_parts}
+use Rattle.std.proofs.Common.{◌≡◌, ℕ, zero, suc, ◌+◌, ◌%◌, ◌<◌, ◌≤◌, Bool, true, false, cond, ◌&&◌, ◌||◌, not, eqb, ltb, leb, List, [], ◌∷◌, ◌++◌, length, get_or, take, drop, Option, Some, None, refl, sym, ap, ◌∙◌, subst, add-one, inl, inr, arith}
+use Rattle.std.specs.Prelude.{is_some, is_none, bytes_eq, nat_lt, sum_by}
+use Rattle.std.specs.List.{list_all}
+use Rattle.std.proofs.lemmas.List.Sums.{sum_by-cons}
+use Rattle.knx_model.specs.declared.project.TextVersion.{TextVersion}
+use Rattle.std.proofs.lemmas.Bool.{and_parts, eqb-true, leb-false, ltb-false, cases_Bool, false≢true, false_from_ne_true, not-false, or_from, or_parts}
 use Rattle.std.proofs.lemmas.Slice.Eq.{bytes_eq-Decides}
 use Rattle.std.proofs.lemmas.List.{take_more, take_all}
 use Rattle.knx_model.specs.declared.address.IndAddr.{IndAddr}
@@ -9,14 +12,14 @@ use Rattle.knx_model.specs.declared.catalogue.model.Model.{Model}
 use Rattle.knx_model.specs.declared.catalogue.model.NamedModel.{NamedModel}
 use Rattle.knx_model.specs.declared.project.Statement.{Statement}
 use Rattle.knx_model.specs.declared.project.What.{What}
-use Rattle.knx_model.specs.declared.project.What.TheVariants.{Title, Group, Device, Object, Link, Flags, Param}
+use Rattle.knx_model.specs.declared.project.What.TheVariants.{Version, Title, Group, Device, Object, Link, Send, Flags, Param}
 use Rattle.knx_model.specs.Models.{model_named, has_object}
-use Rattle.knx_model.specs.Rules.{first_broken, first_some, some_line, count_lines, declares_device, declares_object, links_device, is_device_line, is_object_line, is_link_line, model_in, model_of, named_model, asked_of, duplicate_object, too_many_devices, too_many_links, unknown_model, no_device}
-use Rattle.knx_model.specs.Statements.{is_spellable, are_spellable, is_device, is_object, is_group}
+use Rattle.knx_model.specs.Rules.{first_broken, first_some, some_line, count_lines, declares_device, declares_object, count_links, links_of_device, links_in, is_device_line, is_object_line, model_in, model_of, named_model, asked_of, duplicate_object, too_many_devices, too_many_links, unknown_model, no_device}
+use Rattle.knx_model.specs.Statements.{is_spellable, are_spelled, are_spellable, version_of, is_version, is_device, is_object, are_groups}
 use Rattle.project_check.specs.Keys.{names_model}
-use Rattle.project_check.proofs.Few.{one, count_cons, count_same, few_below, is_key, is_below}
+use Rattle.project_check.proofs.Few.{one, count_cons, count_same, few_below, is_key, is_below, weigh, weigh_below}
 use Rattle.project_check.proofs.Sound.{unbroken_at}
-use Rattle.project_check.proofs.Steps.{some_more, count_more, modelled, named_in}
+use Rattle.project_check.proofs.Steps.{some_more, count_more, links_more, modelled, named_in}
 
 nothing : Statement
 nothing = record { line = 0; what = Title [] }
@@ -51,7 +54,9 @@ device_below before (Device device model) is few = leb-false 255 (count_lines is
 device_below before (Title name) is few = absurd (false≢true is)
 device_below before (Group group name) is few = absurd (false≢true is)
 device_below before (Object device n size flags) is few = absurd (false≢true is)
-device_below before (Link device object group) is few = absurd (false≢true is)
+device_below before (Link device object groups) is few = absurd (false≢true is)
+device_below before Version is few = absurd (false≢true is)
+device_below before (Send device object group) is few = absurd (false≢true is)
 device_below before (Flags device object flags) is few = absurd (false≢true is)
 device_below before (Param device name value) is few = absurd (false≢true is)
 
@@ -60,20 +65,33 @@ few_devices catalogue ss e = few is_device_line 255 ss (λ i d lt is. device_bel
 
 -- ---- links
 
-pub link_below : (d : ℕ) (before : List Statement) (what : What) → links_device d what ≡ true → too_many_links before what ≡ false → count_lines (links_device d) before < 2047
-link_below d before (Link device object group) is few =
-    let same : device.raw ≡ d = eqb-true device.raw d is in
-    leb-false 2047 (count_lines (links_device d) before) (subst (λ (r : ℕ). leb 2047 (count_lines (links_device r) before) ≡ false) same few)
-link_below d before (Title name) is few = absurd (false≢true is)
-link_below d before (Group group name) is few = absurd (false≢true is)
-link_below d before (Device device model) is few = absurd (false≢true is)
-link_below d before (Object device n size flags) is few = absurd (false≢true is)
-link_below d before (Flags device object flags) is few = absurd (false≢true is)
-link_below d before (Param device name value) is few = absurd (false≢true is)
+one_line : (d : ℕ) (before : List Statement) (what : What) → too_many_links before what ≡ false → count_links d before ≤ 2047 → count_links d before + links_of_device d what ≤ 2047
+one_line d before (Link device object groups) few upto = elim (cases_Bool (eqb device.raw d)) [
+  | inl is ↦ (
+      let same : device.raw ≡ d = eqb-true device.raw d is in
+      let fits : count_links d before + length groups ≤ 2047 = ltb-false 2047 (count_links d before + length groups) (subst (λ (r : ℕ). ltb 2047 (count_links r before + length groups) ≡ false) same few) in
+      rw is fits)
+  | inr other ↦ rw other (omega (arith, upto))
+]
+one_line d before Version few upto = omega (arith, upto)
+one_line d before (Title name) few upto = omega (arith, upto)
+one_line d before (Group group name) few upto = omega (arith, upto)
+one_line d before (Device device model) few upto = omega (arith, upto)
+one_line d before (Object device n size flags) few upto = omega (arith, upto)
+one_line d before (Send device object group) few upto = omega (arith, upto)
+one_line d before (Flags device object flags) few upto = omega (arith, upto)
+one_line d before (Param device name value) few upto = omega (arith, upto)
 
--- at most 2,047 `link` lines of a device
-pub few_links : (catalogue : List NamedModel) (ss : List Statement) (d : ℕ) → first_broken catalogue ss ≡ None → count_lines (links_device d) ss ≤ 2047
-few_links catalogue ss d e = few (links_device d) 2047 ss (λ i s lt is. link_below d (take i ss) (get_or ss i s).what is (unbroken_at catalogue ss i s e lt).too_many_links)
+few_links_to : (catalogue : List NamedModel) (ss : List Statement) (d : ℕ) → first_broken catalogue ss ≡ None → (i : ℕ) → i ≤ length ss → count_links d (take i ss) ≤ 2047
+few_links_to catalogue ss d e zero le = omega arith
+few_links_to catalogue ss d e (suc i) le =
+    let lt : i < length ss = omega (arith, le) in
+    let s = get_or ss i nothing in
+    rw (split ss i nothing lt, links_more d (take i ss) s) (one_line d (take i ss) s.what (unbroken_at catalogue ss i nothing e lt).too_many_links (few_links_to catalogue ss d e i (omega (arith, le))))
+
+-- at most 2,047 links of a device
+pub few_links : (catalogue : List NamedModel) (ss : List Statement) (d : ℕ) → first_broken catalogue ss ≡ None → count_links d ss ≤ 2047
+few_links catalogue ss d e = subst (λ (xs : List Statement). count_links d xs ≤ 2047) (whole ss) (few_links_to catalogue ss d e (length ss) (omega arith))
 
 first : (a b : Bool) → (a && b) ≡ true → a ≡ true
 first a b e = (and_parts a b e).0
@@ -85,31 +103,49 @@ raw_small a e =
     first small some (first (small && some) (nat_lt (a.raw % 256) 255) e)
 
 abbrev linked : What → Option ℕ
-linked (Link device object group) = Some device.raw
+linked (Link device object groups) = Some device.raw
 linked _ = None
 
-linked_is : (k : ℕ) (w : What) → is_spellable w ≡ true → is_key (linked w) k ≡ links_device k w
-linked_is k (Title name) s = refl
-linked_is k (Group group name) s = refl
-linked_is k (Device device model) s = refl
-linked_is k (Object device n size flags) s = refl
-linked_is k (Link device object group) s = refl
-linked_is k (Flags device object flags) s = refl
-linked_is k (Param device name value) s = refl
+linked_is : (k : ℕ) (w : What) → cond (is_key (linked w) k) (links_in w) 0 ≡ links_of_device k w
+linked_is k Version = refl
+linked_is k (Title name) = refl
+linked_is k (Group group name) = refl
+linked_is k (Device device model) = refl
+linked_is k (Object device n size flags) = refl
+linked_is k (Link device object groups) = refl
+linked_is k (Send device object group) = refl
+linked_is k (Flags device object flags) = refl
+linked_is k (Param device name value) = refl
 
-linked_below : (w : What) → is_spellable w ≡ true → is_link_line w ≡ is_below (linked w) 65536
-linked_below (Title name) s = refl
-linked_below (Group group name) s = refl
-linked_below (Device device model) s = refl
-linked_below (Object device n size flags) s = refl
-linked_below (Link device object group) s = sym (raw_small device (first (is_device device) (is_object object) (first (is_device device && is_object object) (is_group group) s)))
-linked_below (Flags device object flags) s = refl
-linked_below (Param device name value) s = refl
+linked_same : (k : ℕ) (ss : List Statement) → weigh (λ w. is_key (linked w) k) links_in ss ≡ count_links k ss
+linked_same k [] = refl
+linked_same k (s ∷ ss) = omega (arith, sum_by-cons (λ (t : Statement). cond (is_key (linked t.what) k) (links_in t.what) 0) s ss, sum_by-cons (λ (t : Statement). links_of_device k t.what) s ss, linked_is k s.what, linked_same k ss)
 
-pub links_fit : (catalogue : List NamedModel) (ss : List Statement) → first_broken catalogue ss ≡ None → are_spellable ss ≡ true → count_lines is_link_line ss ≤ 134152192
+linked_below : (version : TextVersion) (w : What) → is_spellable version w ≡ true → links_in w ≡ cond (is_below (linked w) 65536) (links_in w) 0
+linked_below version Version s = refl
+linked_below version (Title name) s = refl
+linked_below version (Group group name) s = refl
+linked_below version (Device device model) s = refl
+linked_below version (Object device n size flags) s = refl
+linked_below version (Link device object groups) s = rw (raw_small device (first (is_device device) (is_object object) (first (is_device device && is_object object) (are_groups version groups) s))) refl
+linked_below version (Send device object group) s = refl
+linked_below version (Flags device object flags) s = refl
+linked_below version (Param device name value) s = refl
+
+all_below : (version : TextVersion) (ss : List Statement) → are_spelled version ss ≡ true → sum_by (λ s. links_in s.what) ss ≡ weigh (λ w. is_below (linked w) 65536) links_in ss
+all_below version [] e = refl
+all_below version (s ∷ ss) e =
+    let parts = and_parts (is_spellable version s.what) (are_spelled version ss) e in
+    omega (arith, sum_by-cons (λ (t : Statement). links_in t.what) s ss, sum_by-cons (λ (t : Statement). cond (is_below (linked t.what) 65536) (links_in t.what) 0) s ss, linked_below version s.what parts.0, all_below version ss parts.1)
+
+-- statements that can be spelled are, in their version
+spelled_so : (ss : List Statement) → are_spellable ss ≡ true → are_spelled (version_of ss) ss ≡ true
+spelled_so ss e = (and_parts (are_spelled (version_of ss) ss) (list_all (λ s. not (is_version s.what)) (drop 1 ss)) e).0
+
+pub links_fit : (catalogue : List NamedModel) (ss : List Statement) → first_broken catalogue ss ≡ None → are_spellable ss ≡ true → sum_by (λ s. links_in s.what) ss ≤ 134152192
 links_fit catalogue ss e spelled =
-    let each : (k : ℕ) → count_lines (λ w. is_key (linked w) k) ss ≤ 2047 = λ k. omega (arith, few_links catalogue ss k e, count_same is_spellable (λ w. is_key (linked w) k) (links_device k) (linked_is k) ss spelled) in
-    omega (arith, few_below linked 2047 ss each 65536, count_same is_spellable is_link_line (λ w. is_below (linked w) 65536) linked_below ss spelled)
+    let each : (k : ℕ) → weigh (λ w. is_key (linked w) k) links_in ss ≤ 2047 = λ k. omega (arith, few_links catalogue ss k e, linked_same k ss) in
+    omega (arith, weigh_below linked links_in 2047 ss each 65536, all_below (version_of ss) ss (spelled_so ss spelled))
 
 -- ---- the models of devices are known
 
@@ -121,7 +157,9 @@ unnamed catalogue name (Device device model) known none = false_from_ne_true (by
 unnamed catalogue name (Title title) known none = refl
 unnamed catalogue name (Group group title) known none = refl
 unnamed catalogue name (Object device n size flags) known none = refl
-unnamed catalogue name (Link device object group) known none = refl
+unnamed catalogue name (Link device object groups) known none = refl
+unnamed catalogue name Version known none = refl
+unnamed catalogue name (Send device object group) known none = refl
 unnamed catalogue name (Flags device object flags) known none = refl
 unnamed catalogue name (Param device title value) known none = refl
 
@@ -175,7 +213,9 @@ object_below catalogue ss d k before (Object device n size flags) e is new decla
 object_below catalogue ss d k before (Title name) e is new declared = absurd (false≢true is)
 object_below catalogue ss d k before (Group group name) e is new declared = absurd (false≢true is)
 object_below catalogue ss d k before (Device device model) e is new declared = absurd (false≢true is)
-object_below catalogue ss d k before (Link device object group) e is new declared = absurd (false≢true is)
+object_below catalogue ss d k before (Link device object groups) e is new declared = absurd (false≢true is)
+object_below catalogue ss d k before Version e is new declared = absurd (false≢true is)
+object_below catalogue ss d k before (Send device object group) e is new declared = absurd (false≢true is)
 object_below catalogue ss d k before (Flags device object flags) e is new declared = absurd (false≢true is)
 object_below catalogue ss d k before (Param device name value) e is new declared = absurd (false≢true is)
 
@@ -197,17 +237,19 @@ key_if : (b : Bool) (n k : ℕ) → is_key (cond b (Some n) None) k ≡ (b && eq
 key_if true n k = refl
 key_if false n k = refl
 
-numbered_is : (d k : ℕ) (w : What) → is_spellable w ≡ true → is_key (numbered d w) k ≡ declares_object d k w
-numbered_is d k (Object device n size flags) s = key_if (eqb device.raw d) n k
-numbered_is d k (Title name) s = refl
-numbered_is d k (Group group name) s = refl
-numbered_is d k (Device device model) s = refl
-numbered_is d k (Link device object group) s = refl
-numbered_is d k (Flags device object flags) s = refl
-numbered_is d k (Param device name value) s = refl
+numbered_is : (version : TextVersion) (d k : ℕ) (w : What) → is_spellable version w ≡ true → is_key (numbered d w) k ≡ declares_object d k w
+numbered_is version d k (Object device n size flags) s = key_if (eqb device.raw d) n k
+numbered_is version d k (Title name) s = refl
+numbered_is version d k (Group group name) s = refl
+numbered_is version d k (Device device model) s = refl
+numbered_is version d k (Link device object groups) s = refl
+numbered_is version d k Version s = refl
+numbered_is version d k (Send device object group) s = refl
+numbered_is version d k (Flags device object flags) s = refl
+numbered_is version d k (Param device name value) s = refl
 
-object_parts : (device : IndAddr) (n size flags : ℕ) → is_spellable (Object device n size flags) ≡ true → (is_device device ≡ true) × (is_object n ≡ true)
-object_parts device n size flags s =
+object_parts : (version : TextVersion) (device : IndAddr) (n size flags : ℕ) → is_spellable version (Object device n size flags) ≡ true → (is_device device ≡ true) × (is_object n ≡ true)
+object_parts version device n size flags s =
     let of = is_device device && is_object n in
     let sized = of && nat_lt size 15 in
     let flagged = sized && nat_lt flags 256 in
@@ -217,43 +259,51 @@ below_if : (b : Bool) (n : ℕ) → is_object n ≡ true → b ≡ is_below (con
 below_if true n small = sym (and_parts (nat_lt 0 n) (nat_lt n 256) small).1
 below_if false n small = refl
 
-numbered_below : (d : ℕ) (w : What) → is_spellable w ≡ true → is_object_of d w ≡ is_below (numbered d w) 256
-numbered_below d (Object device n size flags) s = below_if (eqb device.raw d) n (object_parts device n size flags s).1
-numbered_below d (Title name) s = refl
-numbered_below d (Group group name) s = refl
-numbered_below d (Device device model) s = refl
-numbered_below d (Link device object group) s = refl
-numbered_below d (Flags device object flags) s = refl
-numbered_below d (Param device name value) s = refl
+numbered_below : (version : TextVersion) (d : ℕ) (w : What) → is_spellable version w ≡ true → is_object_of d w ≡ is_below (numbered d w) 256
+numbered_below version d (Object device n size flags) s = below_if (eqb device.raw d) n (object_parts version device n size flags s).1
+numbered_below version d (Title name) s = refl
+numbered_below version d (Group group name) s = refl
+numbered_below version d (Device device model) s = refl
+numbered_below version d (Link device object groups) s = refl
+numbered_below version d Version s = refl
+numbered_below version d (Send device object group) s = refl
+numbered_below version d (Flags device object flags) s = refl
+numbered_below version d (Param device name value) s = refl
 
 few_objects : (catalogue : List NamedModel) (ss : List Statement) (d : ℕ) → first_broken catalogue ss ≡ None → are_spellable ss ≡ true → count_lines (is_object_of d) ss ≤ 256
 few_objects catalogue ss d e spelled =
-    let each : (k : ℕ) → count_lines (λ w. is_key (numbered d w) k) ss ≤ 1 = λ k. omega (arith, object_once catalogue ss d k e, count_same is_spellable (λ w. is_key (numbered d w) k) (declares_object d k) (numbered_is d k) ss spelled) in
-    omega (arith, few_below (numbered d) 1 ss each 256, count_same is_spellable (is_object_of d) (λ w. is_below (numbered d w) 256) (numbered_below d) ss spelled)
+    let v = version_of ss in
+    let each : (k : ℕ) → count_lines (λ w. is_key (numbered d w) k) ss ≤ 1 = λ k. omega (arith, object_once catalogue ss d k e, count_same (is_spellable v) (λ w. is_key (numbered d w) k) (declares_object d k) (numbered_is v d k) ss (spelled_so ss spelled)) in
+    omega (arith, few_below (numbered d) 1 ss each 256, count_same (is_spellable v) (is_object_of d) (λ w. is_below (numbered d w) 256) (numbered_below v d) ss (spelled_so ss spelled))
 
 abbrev owner : What → Option ℕ
 owner (Object device n size flags) = Some device.raw
 owner _ = None
 
-owner_is : (k : ℕ) (w : What) → is_spellable w ≡ true → is_key (owner w) k ≡ is_object_of k w
-owner_is k (Object device n size flags) s = refl
-owner_is k (Title name) s = refl
-owner_is k (Group group name) s = refl
-owner_is k (Device device model) s = refl
-owner_is k (Link device object group) s = refl
-owner_is k (Flags device object flags) s = refl
-owner_is k (Param device name value) s = refl
+owner_is : (version : TextVersion) (k : ℕ) (w : What) → is_spellable version w ≡ true → is_key (owner w) k ≡ is_object_of k w
+owner_is version k (Object device n size flags) s = refl
+owner_is version k (Title name) s = refl
+owner_is version k (Group group name) s = refl
+owner_is version k (Device device model) s = refl
+owner_is version k (Link device object groups) s = refl
+owner_is version k Version s = refl
+owner_is version k (Send device object group) s = refl
+owner_is version k (Flags device object flags) s = refl
+owner_is version k (Param device name value) s = refl
 
-owner_below : (w : What) → is_spellable w ≡ true → is_object_line w ≡ is_below (owner w) 65536
-owner_below (Object device n size flags) s = sym (raw_small device (object_parts device n size flags s).0)
-owner_below (Title name) s = refl
-owner_below (Group group name) s = refl
-owner_below (Device device model) s = refl
-owner_below (Link device object group) s = refl
-owner_below (Flags device object flags) s = refl
-owner_below (Param device name value) s = refl
+owner_below : (version : TextVersion) (w : What) → is_spellable version w ≡ true → is_object_line w ≡ is_below (owner w) 65536
+owner_below version (Object device n size flags) s = sym (raw_small device (object_parts version device n size flags s).0)
+owner_below version (Title name) s = refl
+owner_below version (Group group name) s = refl
+owner_below version (Device device model) s = refl
+owner_below version (Link device object groups) s = refl
+owner_below version Version s = refl
+owner_below version (Send device object group) s = refl
+owner_below version (Flags device object flags) s = refl
+owner_below version (Param device name value) s = refl
 
 pub objects_fit : (catalogue : List NamedModel) (ss : List Statement) → first_broken catalogue ss ≡ None → are_spellable ss ≡ true → count_lines is_object_line ss ≤ 16777216
 objects_fit catalogue ss e spelled =
-    let each : (k : ℕ) → count_lines (λ w. is_key (owner w) k) ss ≤ 256 = λ k. omega (arith, few_objects catalogue ss k e spelled, count_same is_spellable (λ w. is_key (owner w) k) (is_object_of k) (owner_is k) ss spelled) in
-    omega (arith, few_below owner 256 ss each 65536, count_same is_spellable is_object_line (λ w. is_below (owner w) 65536) owner_below ss spelled)
+    let v = version_of ss in
+    let each : (k : ℕ) → count_lines (λ w. is_key (owner w) k) ss ≤ 256 = λ k. omega (arith, few_objects catalogue ss k e spelled, count_same (is_spellable v) (λ w. is_key (owner w) k) (is_object_of k) (owner_is v k) ss (spelled_so ss spelled)) in
+    omega (arith, few_below owner 256 ss each 65536, count_same (is_spellable v) is_object_line (λ w. is_below (owner w) 65536) (owner_below v) ss (spelled_so ss spelled))

@@ -1,16 +1,16 @@
 -- What a text that breaks no rule keeps.
 use Rattle.std.proofs.Common.{◌≡◌, ℕ, zero, suc, ◌+◌, ◌<◌, ◌≤◌, Bool, true, false, cond, List, [], ◌∷◌, length, get_or, take, Option, Some, None, refl, sym, ◌∙◌, subst, inl, inr, arith}
 use Rattle.std.specs.List.{cons_option}
-use Rattle.std.proofs.lemmas.Bool.{cases_eq, false≢true}
+use Rattle.std.proofs.lemmas.Bool.{cases_eq, false≢true, or_parts}
 use Rattle.std.proofs.lemmas.Bool.Decides.{nat_tests}
 use Rattle.knx_model.specs.declared.catalogue.model.NamedModel.{NamedModel}
 use Rattle.knx_model.specs.declared.project.Statement.{Statement}
 use Rattle.knx_model.specs.declared.project.What.{What}
 use Rattle.knx_model.specs.declared.refusal.Refused.{Refused}
 use Rattle.knx_model.specs.declared.refusal.Why.{Why}
-use Rattle.knx_model.specs.declared.refusal.Why.TheVariants.{DuplicateDevice, DuplicateGroup, UnknownGroup, UnknownModel, DuplicateObject, UnknownObject, DuplicateLink, UnknownParameter, OutOfRange, SizeDiffers, TooMany, NoDevice}
+use Rattle.knx_model.specs.declared.refusal.Why.TheVariants.{DuplicateDevice, DuplicateGroup, UnknownGroup, UnknownModel, DuplicateObject, UnknownObject, DuplicateLink, UnknownParameter, OutOfRange, SizeDiffers, TooMany, NoDevice, NotLinked}
 use Rattle.knx_model.specs.LeastLine.{first_refused}
-use Rattle.knx_model.specs.Rules.{rule_of, broken_at, broken_from, first_broken, duplicate_link}
+use Rattle.knx_model.specs.Rules.{rule_of, broken_at, broken_from, first_broken, links_again, repeats_group, groups_of}
 use Rattle.knx_model.specs.Rules as rules
 use Rattle.project_check.specs.Links.{IsUpTo, is_at}
 
@@ -89,9 +89,9 @@ pub unbroken_at : (catalogue : List NamedModel) (ss : List Statement) (i : ℕ) 
     → IsUnbroken catalogue (take i ss) ss (get_or ss i d).what
 unbroken_at catalogue ss i d e lt = kept catalogue (take i ss) ss (get_or ss i d).what (sound_at catalogue ss i d e lt)
 
--- a line that breaks no rule repeats no link
-pub repeats_none : (catalogue : List NamedModel) (before all : List Statement) (s : Statement) → rule_of catalogue before all s.what ≡ None → duplicate_link before s.what ≡ false
-repeats_none catalogue before all s e = (kept catalogue before all s.what e).duplicate_link
+-- a line that breaks no rule repeats no link of an earlier one
+pub repeats_none : (catalogue : List NamedModel) (before all : List Statement) (s : Statement) → rule_of catalogue before all s.what ≡ None → links_again before s.what ≡ false
+repeats_none catalogue before all s e = (or_parts (links_again before s.what) (repeats_group (groups_of s.what)) (kept catalogue before all s.what e).duplicate_link).0
 
 pub up_to_start : (first : Option ℕ) → IsUpTo first 0
 up_to_start None = tt

@@ -12,10 +12,10 @@ use Rattle.std.proofs.lemmas.List.Sums.{sum_by-append}
 use Rattle.knx_model.specs.declared.catalogue.model.NamedModel.{NamedModel}
 use Rattle.knx_model.specs.declared.project.Statement.{Statement}
 use Rattle.knx_model.specs.declared.project.What.{What}
-use Rattle.knx_model.specs.declared.project.What.TheVariants.{Title, Group, Device, Object, Link, Flags, Param}
-use Rattle.knx_model.specs.Rules.{some_line, count_lines, first_some, declares_group, declares_device, declares_object, links_device, is_device_line, size_in, model_in}
+use Rattle.knx_model.specs.declared.project.What.TheVariants.{Version, Title, Group, Device, Object, Link, Send, Flags, Param}
+use Rattle.knx_model.specs.Rules.{some_line, count_lines, first_some, declares_group, declares_device, declares_object, count_links, links_of_device, is_device_line, size_in, model_in}
 use Rattle.project_check.specs.Keys.{object_eq, names_model}
-use Rattle.project_check.specs.Knowing.{Holds, IsKept, KeepsModels, Declares, Precedes, capped, counted}
+use Rattle.project_check.specs.Knowing.{Holds, IsKept, KeepsModels, Declares, Precedes, capped, counted, with_links}
 use Rattle.project_check.specs.declared.group_object.GroupObject.{GroupObject}
 use Rattle.project_check.specs.declared.declared.Declared.{Declared}
 use Rattle.project_check.specs.declared.earlier.Earlier.{Earlier}
@@ -62,7 +62,9 @@ size_or_none d n (Title name) = refl
 size_or_none d n (Group group name) = refl
 size_or_none d n (Device device model) = refl
 size_or_none d n (Object device number size flags) = some_if (declares_object d n (Object device number size flags)) size
-size_or_none d n (Link device object group) = refl
+size_or_none d n (Link device object groups) = refl
+size_or_none d n Version = refl
+size_or_none d n (Send device object group) = refl
 size_or_none d n (Flags device object flags) = refl
 size_or_none d n (Param device name value) = refl
 
@@ -75,7 +77,9 @@ model_or_none d (Title name) = refl
 model_or_none d (Group group name) = refl
 model_or_none d (Device device model) = some_if (declares_device d (Device device model)) model
 model_or_none d (Object device number size flags) = refl
-model_or_none d (Link device object group) = refl
+model_or_none d (Link device object groups) = refl
+model_or_none d Version = refl
+model_or_none d (Send device object group) = refl
 model_or_none d (Flags device object flags) = refl
 model_or_none d (Param device name value) = refl
 
@@ -90,7 +94,9 @@ named_by d name (Device device model) e =
     let is : model ≡ name = (cond_some (eqb device.raw d) model name e).1 in
     (bytes_eq-Decides model name).1 is
 named_by d name (Object device number size flags) e = absurd (cc)
-named_by d name (Link device object group) e = absurd (cc)
+named_by d name (Link device object groups) e = absurd (cc)
+named_by d name Version e = absurd (cc)
+named_by d name (Send device object group) e = absurd (cc)
 named_by d name (Flags device object flags) e = absurd (cc)
 named_by d name (Param device title value) e = absurd (cc)
 
@@ -126,17 +132,24 @@ capped_more false n = refl
 counted_more : (test : What → Bool) (ss : List Statement) (s : Statement) (old new : ℕ) → new ≡ counted (test s.what) old → old ≡ capped (count_lines test ss) → new ≡ capped (count_lines test (ss ++ s ∷ []))
 counted_more test ss s old new e before = e ∙ ap (counted (test s.what)) before ∙ capped_more (test s.what) (count_lines test ss) ∙ ap capped (sym (count_more test ss s))
 
+-- the links of a device in one line more
+pub links_more : (d : ℕ) (ss : List Statement) (s : Statement) → count_links d (ss ++ s ∷ []) ≡ count_links d ss + links_of_device d s.what
+links_more d ss s = sum_by-append (λ x. links_of_device d x.what) ss (s ∷ []) ∙ omega arith
+
+capped_links : (n k : ℕ) → capped (capped n + k) ≡ capped (n + k)
+capped_links n k = omega arith
+
 pub precedes_more : (d e : Earlier) (ss : List Statement) (s : Statement)
     → ((f : ℕ → Bool) → Holds d.groups f → Holds e.groups (λ g. f g || declares_group g s.what))
     → ((f : ℕ → Bool) → Holds d.devices f → Holds e.devices (λ a. f a || declares_device a s.what))
     → ((o : GroupObject) → contains object_eq e.objects o ≡ (contains object_eq d.objects o || declares_object o.device o.number s.what))
     → e.device_lines ≡ counted (is_device_line s.what) d.device_lines
-    → ((f : ℕ → ℕ) → Holds d.link_lines f → Holds e.link_lines (λ a. counted (links_device a s.what) (f a)))
+    → ((f : ℕ → ℕ) → Holds d.links f → Holds e.links (λ a. with_links a s.what (f a)))
     → Precedes d ss → Precedes e (ss ++ s ∷ [])
-precedes_more d e ss s groups devices objects device_lines link_lines before = record {
+precedes_more d e ss s groups devices objects device_lines links before = record {
   groups = marked_more declares_group e.groups ss s (groups (λ g. some_line (declares_group g) ss) before.groups);
   devices = marked_more declares_device e.devices ss s (devices (λ a. some_line (declares_device a) ss) before.devices);
   objects = λ o. objects o ∙ ap (λ b. b || declares_object o.device o.number s.what) (before.objects o) ∙ sym (some_more (declares_object o.device o.number) ss s);
   device_lines = counted_more is_device_line ss s d.device_lines e.device_lines device_lines before.device_lines;
-  link_lines = λ a count is. counted_more (links_device a) ss s (capped (count_lines (links_device a) ss)) count (link_lines (λ b. capped (count_lines (links_device b) ss)) before.link_lines a count is) refl;
+  links = λ a count is. links (λ b. capped (count_links b ss)) before.links a count is ∙ capped_links (count_links a ss) (links_of_device a s.what) ∙ ap capped (sym (links_more a ss s));
 }

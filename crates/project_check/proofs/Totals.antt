@@ -1,5 +1,5 @@
 -- The objects of the devices' models, counted by their `device` lines.
-use Rattle.std.proofs.Common.{◌≡◌, ℕ, zero, suc, ◌<◌, ◌≤◌, false, eqb, List, [], ◌∷◌, ◌++◌, length, get_or, take, Option, Some, None, refl, sym, ap, ◌∙◌, subst, add-one, arith}
+use Rattle.std.proofs.Common.{◌≡◌, ℕ, zero, suc, ◌+◌, ◌<◌, ◌≤◌, false, eqb, List, [], ◌∷◌, ◌++◌, length, get_or, take, Option, Some, None, refl, sym, ap, ◌∙◌, subst, add-one, arith}
 use Rattle.std.specs.Prelude.{is_some, sum_by}
 use Rattle.std.proofs.lemmas.Bool.{false≢true, cond-true, eq-eqb}
 use Rattle.std.proofs.lemmas.List.{take_more, take_all}
@@ -8,7 +8,7 @@ use Rattle.std.proofs.lemmas.List.Sums.{sum_by-append, sum_by-cons}
 use Rattle.knx_model.specs.declared.address.IndAddr.{IndAddr}
 use Rattle.knx_model.specs.declared.project.Statement.{Statement}
 use Rattle.knx_model.specs.declared.project.What.{What}
-use Rattle.knx_model.specs.declared.project.What.TheVariants.{Title, Group, Device, Object, Link, Flags, Param}
+use Rattle.knx_model.specs.declared.project.What.TheVariants.{Version, Title, Group, Device, Object, Link, Send, Flags, Param}
 use Rattle.knx_model.specs.Counts.{model_objects}
 use Rattle.knx_model.specs.Meaning.{Installation, or_inline}
 use Rattle.knx_model.specs.Rules.{first_broken, first_some, count_lines, is_device_line, device_in, devices_of, model_in, named_model, duplicate_device}
@@ -23,7 +23,9 @@ devices_cons (Device device model) line ss e = omega (arith, count_cons is_devic
 devices_cons (Title name) line ss e = omega (arith, count_cons is_device_line (record { line = line; what = Title name }) ss)
 devices_cons (Group group name) line ss e = omega (arith, count_cons is_device_line (record { line = line; what = Group group name }) ss)
 devices_cons (Object device n size flags) line ss e = omega (arith, count_cons is_device_line (record { line = line; what = Object device n size flags }) ss)
-devices_cons (Link device object group) line ss e = omega (arith, count_cons is_device_line (record { line = line; what = Link device object group }) ss)
+devices_cons (Link device object groups) line ss e = omega (arith, count_cons is_device_line (record { line = line; what = Link device object groups }) ss)
+devices_cons Version line ss e = omega (arith, count_cons is_device_line (record { line = line; what = Version }) ss)
+devices_cons (Send device object group) line ss e = omega (arith, count_cons is_device_line (record { line = line; what = Send device object group }) ss)
 devices_cons (Flags device object flags) line ss e = omega (arith, count_cons is_device_line (record { line = line; what = Flags device object flags }) ss)
 devices_cons (Param device name value) line ss e = omega (arith, count_cons is_device_line (record { line = line; what = Param device name value }) ss)
 
@@ -52,7 +54,9 @@ sum_more i before (Device device model) line only = omega (arith, ap (λ (o : Op
 sum_more i before (Title name) line only = refl
 sum_more i before (Group group name) line only = refl
 sum_more i before (Object device n size flags) line only = refl
-sum_more i before (Link device object group) line only = refl
+sum_more i before (Link device object groups) line only = refl
+sum_more i before Version line only = refl
+sum_more i before (Send device object group) line only = refl
 sum_more i before (Flags device object flags) line only = refl
 sum_more i before (Param device name value) line only = refl
 
@@ -89,3 +93,15 @@ pub models_counted : (i : Installation) → first_broken i.catalogue i.statement
 models_counted i e =
     let le : length i.statements ≤ length i.statements = omega arith in
     subst (λ (xs : List Statement). sum_by (model_objects i) (devices_of xs) ≡ sum_by (λ s. line_objects i.catalogue s.what) xs) (take_all (length i.statements) i.statements le) (sum_to i e (length i.statements) le)
+
+-- ---- the links
+
+-- a sum of one statement more
+pub sum_more_at : (f : Statement → ℕ) (ss : List Statement) (i : ℕ) (s : Statement) → i < length ss → s ≡ get_or ss i s → sum_by f (take (i + 1) ss) ≡ sum_by f (take i ss) + f s
+sum_more_at f ss i s lt is = ap (sum_by f) (take_more ss i s lt ∙ ap (λ (t : Statement). take i ss ++ t ∷ []) (sym is)) ∙ sum_by-append f (take i ss) (s ∷ []) ∙ omega arith
+
+-- a sum of the first statements is at most that of all
+pub sum_up_to : (f : Statement → ℕ) (ss : List Statement) (i : ℕ) → sum_by f (take i ss) ≤ sum_by f ss
+sum_up_to f [] i = omega arith
+sum_up_to f (s ∷ ss) zero = omega arith
+sum_up_to f (s ∷ ss) (suc i) = omega (arith, sum_by-cons f s (take i ss), sum_by-cons f s ss, sum_up_to f ss i)

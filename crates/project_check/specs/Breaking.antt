@@ -5,9 +5,9 @@ use Rattle.knx_model.specs.declared.project.Statement.{Statement}
 use Rattle.knx_model.specs.declared.project.What.{What}
 use Rattle.knx_model.specs.declared.refusal.Refused.{Refused}
 use Rattle.knx_model.specs.declared.refusal.Why.{Why}
-use Rattle.knx_model.specs.declared.refusal.Why.TheVariants.{DuplicateDevice, DuplicateGroup, UnknownGroup, UnknownModel, DuplicateObject, UnknownObject, DuplicateLink, UnknownParameter, OutOfRange, SizeDiffers, TooMany, NoDevice}
+use Rattle.knx_model.specs.declared.refusal.Why.TheVariants.{DuplicateDevice, DuplicateGroup, UnknownGroup, UnknownModel, DuplicateObject, UnknownObject, DuplicateLink, UnknownParameter, OutOfRange, SizeDiffers, TooMany, NoDevice, NotLinked}
 use Rattle.knx_model.specs.Refusal.{why_number}
-use Rattle.knx_model.specs.Rules.{duplicate_device, duplicate_group, unknown_group, unknown_model, duplicate_object, unknown_object, duplicate_link, unknown_parameter, out_of_range, size_differs, too_many_devices, too_many_links, no_device}
+use Rattle.knx_model.specs.Rules.{duplicate_device, duplicate_group, unknown_group, unknown_model, duplicate_object, unknown_object, duplicate_link, unknown_parameter, out_of_range, size_differs, too_many_devices, too_many_links, no_device, not_linked}
 
 -- the line breaks this rule, judged by the catalogue, the lines before it and all lines; what else is refused isn't a rule of a whole text
 abbrev pub Breaks : List NamedModel → List Statement → List Statement → What → Why → Type 0
@@ -23,6 +23,7 @@ Breaks catalogue before all what OutOfRange = IsTrue (out_of_range catalogue all
 Breaks catalogue before all what SizeDiffers = IsTrue (size_differs catalogue all what)
 Breaks catalogue before all what (TooMany limit) = ((limit ≡ 255) × IsTrue (too_many_devices before what)) ⊎ ((limit ≡ 2047) × IsTrue (too_many_links before what))
 Breaks catalogue before all what NoDevice = IsTrue (no_device all what)
+Breaks catalogue before all what NotLinked = IsTrue (not_linked all what)
 Breaks catalogue before all what _ = ⊥
 
 -- the statement at this place of the text breaks this rule

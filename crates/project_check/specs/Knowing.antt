@@ -1,5 +1,5 @@
 -- What is known of statements and models, as it is kept in sets and maps.
-use Rattle.std.specs.Prelude.{◌≡◌, ℕ, ◌+◌, ◌<◌, ◌==◌, min, Bool, true, false, nat_le, List, Option, Some, None, IfSome, is_some, bytes_eq, slice_get, slice_index_or, if◌then◌else◌}
+use Rattle.std.specs.Prelude.{◌≡◌, ℕ, ◌+◌, ◌<◌, ◌==◌, min, length, Bool, true, false, nat_lt, List, Option, Some, None, IfSome, is_some, bytes_eq, slice_get, slice_index_or, if◌then◌else◌}
 use Rattle.std.specs.Borrow.{Bor}
 use Rattle.std.specs.Option.{option_map}
 use Rattle.std.specs.HashSet.{HashSet, contains}
@@ -10,11 +10,13 @@ use Rattle.knx_model.specs.declared.catalogue.model.ModelObject.{ModelObject}
 use Rattle.knx_model.specs.declared.catalogue.model.NamedModel.{NamedModel}
 use Rattle.knx_model.specs.declared.project.Statement.{Statement}
 use Rattle.knx_model.specs.declared.project.What.{What}
-use Rattle.knx_model.specs.declared.project.What.TheVariants.{Group, Device, Object, Link as LinkStated}
+use Rattle.knx_model.specs.declared.project.What.TheVariants.{Group, Device, Object, Link as LinkStated, Send}
 use Rattle.knx_model.specs.Models.{model_named, object_in, field_in}
-use Rattle.knx_model.specs.Rules.{some_line, count_lines, first_some, declares_group, declares_device, declares_object, links_device, is_device_line, size_in, model_in, model_of, size_of, first_linked, duplicate_device, duplicate_group, too_many_devices, too_many_links}
+use Rattle.knx_model.specs.Rules.{some_line, count_lines, count_links, links_of_device, first_some, declares_group, declares_device, declares_object, is_device_line, size_in, model_in, model_of, size_of, first_linked, duplicate_device, duplicate_group, too_many_devices, too_many_links}
 use Rattle.project_check.specs.Keys.{object_eq, range_of, index_of, names_model}
-use Rattle.project_check.specs.Links.{IsFirstRepeat}
+use Rattle.knx_model.specs.declared.project.TextVersion.TheVariants.{Two}
+use Rattle.knx_model.specs.Statements.{version_of}
+use Rattle.project_check.specs.Links.{IsFirstRepeat, HoldsLinks}
 use Rattle.project_check.specs.declared.declared.Declared.{Declared}
 use Rattle.project_check.specs.declared.earlier.Earlier.{Earlier}
 use Rattle.project_check.specs.declared.group_object.GroupObject.{GroupObject}
@@ -116,10 +118,16 @@ pub record DeclaresAll (catalogue : List NamedModel) (w : Whole) (ss : List Stat
   pub declared : Declares catalogue w.declared ss
   pub first_objects : FirstObjects catalogue ss w.first_objects
   pub first_repeat : IsFirstRepeat ss w.first_repeat
+  pub linked : HoldsLinks w.linked ss
 
 -- the model that a `device` line names stands in a line of the text
 abbrev pub IsNamed : List Statement → What → Type 0
 IsNamed ss what = (name : List ℕ) → names_model name what ≡ true → some_line (names_model name) ss ≡ true
+
+-- a `send` line stands in a text of version 2
+abbrev pub IsOfVersion : List Statement → What → Type 0
+IsOfVersion ss (Send device object group) = version_of ss ≡ Two
+IsOfVersion ss _ = Unit {0}
 
 -- ---- of the statements before a line
 
@@ -131,13 +139,17 @@ capped n = min n 65535
 abbrev pub counted : Bool → ℕ → ℕ
 counted counts n = if counts then capped (n + 1) else n
 
+-- more links of a device, by a line
+abbrev pub with_links : ℕ → What → ℕ → ℕ
+with_links d what n = capped (n + links_of_device d what)
+
 -- the tables, the set and the counts are those of these statements
 pub record Precedes (e : Earlier) (ss : List Statement) : Type 0 where
   pub groups : Holds e.groups (λ g. some_line (declares_group g) ss)
   pub devices : Holds e.devices (λ d. some_line (declares_device d) ss)
   pub objects : (o : GroupObject) → contains object_eq e.objects o ≡ some_line (declares_object o.device o.number) ss
   pub device_lines : e.device_lines ≡ capped (count_lines is_device_line ss)
-  pub link_lines : Holds e.link_lines (λ d. capped (count_lines (links_device d) ss))
+  pub links : Holds e.links (λ d. capped (count_links d ss))
 
 -- a test of the group or the device that a line declares
 abbrev pub of_group : (ℕ → Bool) → What → Bool
@@ -153,10 +165,10 @@ abbrev pub has_its_object : {S : Type 0} → HashSet GroupObject S → What → 
 has_its_object objects (Object device n size flags) = contains object_eq objects (record { device = device.raw; number = n })
 has_its_object objects _ = false
 
--- a `link` line's device has as many links as it may, by a count of them
-abbrev pub is_full_of_links : (ℕ → ℕ) → What → Bool
-is_full_of_links count (LinkStated device object group) = nat_le 2047 (count device.raw)
-is_full_of_links count _ = false
+-- a `link` line brings its device to more links than it may have, by a count of those before
+abbrev pub exceeds_links : (ℕ → ℕ) → What → Bool
+exceeds_links count (LinkStated device object groups) = nat_lt 2047 (capped (count device.raw + length groups))
+exceeds_links count _ = false
 
 -- an `object` line's number stands in an earlier one of its device
 abbrev pub repeats_object : List Statement → What → Bool

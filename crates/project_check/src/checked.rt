@@ -1,10 +1,11 @@
 //! A project that breaks no rule, or the least line that breaks one.
 
-ghost use Rattle.std.specs.Prelude.{◌≡◌, ◌≢◌, None, Some, IfOk, IfErr, OnOk, IfSome, map, slice_get, IsPermutation};
+ghost use Rattle.std.specs.Prelude.{◌≡◌, ◌≢◌, None, Some, IsTrue, IfOk, IfErr, OnOk, IfSome, map, slice_get, IsPermutation};
 ghost use Rattle.std.specs.List.Sorted.{IsStrictlyIncreasing};
 ghost use Rattle.knx_model.specs.declared.refusal.Why.TheVariants.{NoMemory as OutOfMemory};
 ghost use Rattle.knx_model.specs.Counts.{counts_of};
 ghost use Rattle.knx_model.specs.Rules.{first_broken, devices_of, has_device};
+ghost use Rattle.knx_model.specs.Statements.{are_spellable};
 ghost use Rattle.project_check.specs.Devices.{raw_of};
 ghost use Rattle.project_check.specs.Links.{IsFirstRepeat};
 
@@ -85,7 +86,7 @@ impl<'b, 'a> Checked<'b, 'a> {
         Counts {
             devices: self.devices.len() as u32,
             objects: totals.object_lines as u32 + totals.model_objects,
-            links: totals.link_lines as u32,
+            links: totals.links as u32,
         }
     }
 }
@@ -97,7 +98,8 @@ fn first_broken(
     statements: &[Statement<'_>],
     first_repeat: Option<usize>,
 ) -> Result<Option<Refused>, AllocError>
-    requires { IsFirstRepeat statements.now first_repeat }
+    requires repeat { IsFirstRepeat statements.now first_repeat }
+    requires spelled { IsTrue (are_spellable statements.now) }
     ensures found { IfOk result (λ found. found ≡ first_broken catalogue.now statements.now) }
     ensures never { IfOk result (λ found. IfSome found (λ refused. refused.why ≢ OutOfMemory tt)) }
 {

@@ -1,11 +1,11 @@
 //! What is known of the statements before a line.
 
-ghost use Rattle.std.specs.Prelude.{◌≡◌, ◌||◌, ◌++◌, ℕ, Bool, List, [], ◌∷◌, nat_le, ◌&&◌, IfOk, OnOk};
+ghost use Rattle.std.specs.Prelude.{◌≡◌, ◌||◌, ◌++◌, ◌+◌, ℕ, Bool, List, [], ◌∷◌, nat_le, ◌&&◌, IfOk, OnOk};
 ghost use Rattle.std.specs.HashSet.{contains};
 ghost use Rattle.knx_model.specs.declared.project.Statement.{Statement as Stated};
-ghost use Rattle.knx_model.specs.Rules.{declares_group, declares_device, declares_object, links_device, is_device_line};
+ghost use Rattle.knx_model.specs.Rules.{declares_group, declares_device, declares_object, is_device_line};
 ghost use Rattle.project_check.specs.Keys.{object_eq};
-ghost use Rattle.project_check.specs.Knowing.{Holds, Precedes, counted, repeats, of_group, of_device, has_its_object, is_full_of_links};
+ghost use Rattle.project_check.specs.Knowing.{Holds, Precedes, capped, counted, repeats, of_group, of_device, has_its_object, with_links, exceeds_links};
 
 use crate::by_address::ByAddress;
 use crate::group_object::GroupObject;
@@ -16,18 +16,18 @@ use std::collections::HashSet;
 /// The `device` lines that a text may have.
 pub const MOST_DEVICES: u16 = 255;
 
-/// The `link` lines that a device may have.
+/// The links that a device may have, one for each group of its `link` lines.
 pub const MOST_LINKS: u16 = 2047;
 
-/// What is known of the statements before a line: what they declare, the number of `device` lines, and the number of `link` lines of
-/// each device. The numbers stop at 65,535, far above their limits.
+/// What is known of the statements before a line: what they declare, the number of `device` lines, and the number of links of each
+/// device. The numbers stop at 65,535, far above their limits.
 #[derive(Drop)]
 pub struct Earlier {
     pub groups: ByAddress<bool>,
     pub devices: ByAddress<bool>,
     pub objects: HashSet<GroupObject>,
     pub device_lines: u16,
-    pub link_lines: ByAddress<u16>,
+    pub links: ByAddress<u16>,
 }
 
 /// Adds the group of a `ga` line, and tells whether it was there.
@@ -87,16 +87,23 @@ fn count_device(device_lines: u16, what: &What<'_>) -> u16
     }
 }
 
-/// Counts a `link` line for its device, and tells whether the device had as many as it may.
-fn count_link(link_lines: &mut ByAddress<u16>, what: &What<'_>) -> bool
-    ensures counted { (f : ℕ → ℕ) → Holds link_lines.old f → Holds link_lines.new (λ d. counted (links_device d what.now) (f d)) }
-    ensures was { (f : ℕ → ℕ) → Holds link_lines.old f → result ≡ is_full_of_links f what.now }
+/// A count with more links; it stops at 65,535.
+fn more_links(before: u16, groups: usize) -> u16
+    ensures { result ≡ capped (before + groups) }
+{
+    before.saturating_add(groups.min(65_535) as u16)
+}
+
+/// Counts the links of a `link` line for its device, and tells whether there are more than the device may have.
+fn count_links(links: &mut ByAddress<u16>, what: &What<'_>) -> bool
+    ensures counted { (f : ℕ → ℕ) → Holds links.old f → Holds links.new (λ d. with_links d what.now (f d)) }
+    ensures exceeds { (f : ℕ → ℕ) → Holds links.old f → result ≡ exceeds_links f what.now }
 {
     match what {
-        What::Link { device, .. } => {
-            let before = link_lines.get(device.raw);
-            link_lines.set(device.raw, before.saturating_add(1));
-            before >= MOST_LINKS
+        What::Link { device, groups, .. } => {
+            let count = more_links(links.get(device.raw), groups.as_slice().len());
+            links.set(device.raw, count);
+            count > MOST_LINKS
         }
         _ => false,
     }
@@ -132,7 +139,7 @@ impl Earlier {
             devices: ByAddress::new(alloc, false)?,
             objects: HashSet::new(alloc),
             device_lines: 0,
-            link_lines: ByAddress::new(alloc, 0)?,
+            links: ByAddress::new(alloc, 0)?,
         })
     }
 
@@ -149,7 +156,7 @@ impl Earlier {
             group: add_group(&mut self.groups, what),
             object: add_object(&mut self.objects, what)?,
             devices_full,
-            links_full: count_link(&mut self.link_lines, what),
+            links_full: count_links(&mut self.links, what),
         })
     }
 }

@@ -1,12 +1,15 @@
 //! Which rules a statement breaks, and the one of the least number.
 
 ghost use Rattle.std.specs.Prelude.{◌≡◌, ◌≢◌, ◌&&◌, true, ℕ, List, IfOk, IfSome};
+ghost use Rattle.std.specs.List.{list_any};
 ghost use Rattle.knx_model.specs.declared.catalogue.model.NamedModel.{NamedModel};
 ghost use Rattle.knx_model.specs.declared.project.Statement.{Statement as Stated};
-ghost use Rattle.knx_model.specs.declared.project.What.TheVariants.{Device as DeviceLine, Object as ObjectLine, Link as LinkLine, Flags as FlagsLine, Param as ParamLine};
-ghost use Rattle.knx_model.specs.Rules.{rule_of, some_line, duplicate_object, duplicate_link, size_of_first, first_linked, differ};
+ghost use Rattle.knx_model.specs.declared.project.What.TheVariants.{Device as DeviceLine, Object as ObjectLine, Link as LinkLine, Send as SendLine, Flags as FlagsLine, Param as ParamLine};
+ghost use Rattle.knx_model.specs.declared.project.TextVersion.TheVariants.{Two};
+ghost use Rattle.knx_model.specs.Statements.{version_of};
+ghost use Rattle.knx_model.specs.Rules.{rule_of, some_line, has_group, repeats_group, is_undeclared, duplicate_object, links_again, size_of_first, first_linked, differ, differs_from_first};
 ghost use Rattle.project_check.specs.Keys.{names_model};
-ghost use Rattle.project_check.specs.Knowing.{AreNamed, DeclaresAll, repeats, IsNamed};
+ghost use Rattle.project_check.specs.Knowing.{AreNamed, DeclaresAll, repeats, IsNamed, IsOfVersion};
 ghost use Rattle.project_check.specs.Links.{IsFirstRepeat, is_at};
 
 use crate::broken::first_broken_rule;
@@ -15,29 +18,32 @@ use crate::declared::{Declared, first_objects};
 use crate::earlier::{MOST_DEVICES, MOST_LINKS, Repeated};
 use crate::group_object::GroupObject;
 use crate::known::KnownObject;
-use crate::links::link_lines;
+use crate::links::{Link, link_lines, linked};
 use crate::named_models::NamedModels;
 use knx_model::{GroupAddr, IndAddr, Statement, What, Why};
 use std::alloc::{AllocError, Global};
+use std::collections::HashSet;
 
 /// The 256th `device` line.
 const TOO_MANY_DEVICES: Why = Why::TooMany {
     limit: MOST_DEVICES as u32,
 };
 
-/// The 2,048th `link` line of a device.
+/// More than 2,047 links of a device.
 const TOO_MANY_LINKS: Why = Why::TooMany {
     limit: MOST_LINKS as u32,
 };
 
 /// What is known of a whole text: what it declares, what is known of the group object of the first link of each group, none where
-/// the group has no link, and the place of the first `link` line that repeats an earlier one.
+/// the group has no link, the place of the first `link` line that repeats a link of an earlier one, and the links of a text of
+/// version 2.
 #[derive(Drop)]
 pub struct Whole<'b, 'a> {
     pub models: &'b NamedModels<'a>,
     pub declared: Declared<'b, 'a>,
     pub first_objects: ByAddress<Option<KnownObject>>,
     pub first_repeat: Option<usize>,
+    pub linked: HashSet<Link>,
 }
 
 /// Whether two sizes are known and differ.
@@ -48,6 +54,27 @@ fn differ(one: Option<u8>, other: Option<u8>) -> bool
         (Some(one), Some(other)) => one != other,
         _ => false,
     }
+}
+
+/// Whether a group is one of these.
+fn has_group(group: u16, groups: &[GroupAddr]) -> bool
+    ensures { result ≡ has_group group groups.now }
+{
+    groups.iter().any(|g| g.raw == group)
+}
+
+/// Whether a group stands twice.
+fn repeats_group(groups: &[GroupAddr]) -> bool
+    ensures { result ≡ repeats_group groups.now }
+{
+    let mut rest = groups;
+    while let [group, others @ ..] = rest {
+        if has_group(group.raw, others) {
+            return true;
+        }
+        rest = others;
+    }
+    false
 }
 
 impl<'b, 'a> Whole<'b, 'a> {
@@ -64,11 +91,13 @@ impl<'b, 'a> Whole<'b, 'a> {
         let declared = Declared::by_all(alloc, models, statements)?;
         let links = link_lines(alloc, statements)?;
         let first_objects = first_objects(alloc, &declared, links.as_slice())?;
+        let linked = linked(alloc, statements, links.as_slice())?;
         Ok(Whole {
             models,
             declared,
             first_objects,
             first_repeat,
+            linked,
         })
     }
 
@@ -110,21 +139,21 @@ impl<'b, 'a> Whole<'b, 'a> {
         repeated: Repeated,
         device: IndAddr,
         object: u8,
-        group: GroupAddr,
+        groups: &[GroupAddr],
     ) -> Option<Why>
-        ensures { (catalogue : List NamedModel) (before all : List Stated) → DeclaresAll catalogue self.now all → repeated ≡ repeats before (LinkLine device object group) → duplicate_link before (LinkLine device object group) ≡ is_at self.now.first_repeat place → result ≡ rule_of catalogue before all (LinkLine device object group) }
+        ensures { (catalogue : List NamedModel) (before all : List Stated) → DeclaresAll catalogue self.now all → repeated ≡ repeats before (LinkLine device object groups.now) → links_again before (LinkLine device object groups.now) ≡ is_at self.now.first_repeat place → result ≡ rule_of catalogue before all (LinkLine device object groups.now) }
     {
         let known = self.declared.known_object(GroupObject {
             device: device.raw,
             number: object,
         });
-        let has_group = self.declared.has_group(group.raw);
+        let lacks_group = self.lacks_group(groups);
         let missing = known.is_missing();
-        let twice = self.repeats_link(place);
+        let twice = self.repeats_link(place) || repeats_group(groups);
         let declared = self.declared.has_device(device.raw);
-        let differs = self.size_differs(declared, known.size, group.raw);
+        let differs = self.size_differs(declared, known.size, groups);
         first_broken_rule(&[
-            (!has_group, Why::UnknownGroup),
+            (lacks_group, Why::UnknownGroup),
             (missing, Why::UnknownObject),
             (twice, Why::DuplicateLink),
             (differs, Why::SizeDiffers),
@@ -133,7 +162,43 @@ impl<'b, 'a> Whole<'b, 'a> {
         ])
     }
 
-    /// Whether the line at a place is the first that repeats a link.
+    /// Whether one of the groups stands in no `ga` line.
+    fn lacks_group(&self, groups: &[GroupAddr]) -> bool
+        ensures { (catalogue : List NamedModel) (all : List Stated) → DeclaresAll catalogue self.now all → result ≡ list_any (is_undeclared all) groups.now }
+    {
+        for group in groups {
+            if !self.declared.has_group(group.raw) {
+                return true;
+            }
+        }
+        false
+    }
+
+    /// The first rule that a `send` line breaks.
+    fn send_broken(&self, device: IndAddr, object: u8, group: GroupAddr) -> Option<Why>
+        ensures { (catalogue : List NamedModel) (before all : List Stated) → DeclaresAll catalogue self.now all → version_of all ≡ Two → result ≡ rule_of catalogue before all (SendLine device object group) }
+    {
+        let known = self.declared.known_object(GroupObject {
+            device: device.raw,
+            number: object,
+        });
+        let has_group = self.declared.has_group(group.raw);
+        let missing = known.is_missing();
+        let declared = self.declared.has_device(device.raw);
+        let linked = self.linked.contains(&Link {
+            device: device.raw,
+            object,
+            group: group.raw,
+        });
+        first_broken_rule(&[
+            (!has_group, Why::UnknownGroup),
+            (missing, Why::UnknownObject),
+            (!declared, Why::NoDevice),
+            (!linked, Why::NotLinked),
+        ])
+    }
+
+    /// Whether the line at a place is the first that repeats a link of an earlier one.
     fn repeats_link(&self, place: usize) -> bool
         ensures { result ≡ is_at self.now.first_repeat place }
     {
@@ -150,11 +215,23 @@ impl<'b, 'a> Whole<'b, 'a> {
         self.first_objects.get(group)?.size
     }
 
-    /// Whether a size is known and another than that of a group's first `link` line, where the device of the line is declared.
-    fn size_differs(&self, declared: bool, size: Option<u8>, group: u16) -> bool
-        ensures { (catalogue : List NamedModel) (all : List Stated) → DeclaresAll catalogue self.now all → result ≡ (declared && differ size (size_of_first catalogue all (first_linked all group))) }
+    /// Whether a size is known and another than that of the first `link` line of one of the groups.
+    fn differs_from_first(&self, size: Option<u8>, groups: &[GroupAddr]) -> bool
+        ensures { (catalogue : List NamedModel) (all : List Stated) → DeclaresAll catalogue self.now all → result ≡ list_any (differs_from_first catalogue all size) groups.now }
     {
-        declared && differ(size, self.first_size(group))
+        for group in groups {
+            if differ(size, self.first_size(group.raw)) {
+                return true;
+            }
+        }
+        false
+    }
+
+    /// The same where the device of the line is declared.
+    fn size_differs(&self, declared: bool, size: Option<u8>, groups: &[GroupAddr]) -> bool
+        ensures { (catalogue : List NamedModel) (all : List Stated) → DeclaresAll catalogue self.now all → result ≡ (declared && list_any (differs_from_first catalogue all size) groups.now) }
+    {
+        declared && self.differs_from_first(size, groups)
     }
 
     /// The first rule that a `flags` line breaks.
@@ -187,18 +264,23 @@ impl<'b, 'a> Whole<'b, 'a> {
 
     /// The rule of the least number that a statement breaks.
     pub fn first_rule(&self, place: usize, repeated: Repeated, what: &'a What<'a>) -> Option<Why>
-        ensures { (catalogue : List NamedModel) (before all : List Stated) → DeclaresAll catalogue self.now all → IsNamed all what.now → repeated ≡ repeats before what.now → duplicate_link before what.now ≡ is_at self.now.first_repeat place → result ≡ rule_of catalogue before all what.now }
+        ensures { (catalogue : List NamedModel) (before all : List Stated) → DeclaresAll catalogue self.now all → IsNamed all what.now → IsOfVersion all what.now → repeated ≡ repeats before what.now → links_again before what.now ≡ is_at self.now.first_repeat place → result ≡ rule_of catalogue before all what.now }
     {
         match what {
-            What::Title(_) => None,
+            What::Version | What::Title(_) => None,
             What::Group { .. } => first_broken_rule(&[(repeated.group, Why::DuplicateGroup)]),
             What::Device { model, .. } => self.device_broken(repeated, model.as_slice()),
             What::Object { device, n, .. } => self.object_broken(repeated, *device, *n),
             What::Link {
                 device,
                 object,
+                groups,
+            } => self.link_broken(place, repeated, *device, *object, groups.as_slice()),
+            What::Send {
+                device,
+                object,
                 group,
-            } => self.link_broken(place, repeated, *device, *object, *group),
+            } => self.send_broken(*device, *object, *group),
             What::Flags { device, object, .. } => self.flags_broken(*device, *object),
             What::Param {
                 device,

@@ -8,13 +8,14 @@ use Rattle.knx_model.specs.declared.catalogue.model.Model.{Model}
 use Rattle.knx_model.specs.declared.catalogue.model.NamedModel.{NamedModel}
 use Rattle.knx_model.specs.declared.config.ParamValue.{ParamValue}
 use Rattle.knx_model.specs.declared.project.Statement.{Statement}
-use Rattle.knx_model.specs.Meaning.{link_lines, links_of, last_value, params_of, or_inline}
+use Rattle.knx_model.specs.declared.config.LinkSpec.{LinkSpec}
+use Rattle.knx_model.specs.Meaning.{link_lines, last_send, links_of, last_value, params_of, or_inline}
 use Rattle.knx_model.specs.Models.{inline, field_in, IsModel}
 use Rattle.knx_model.specs.Parameters.{HoldsParameters, laid, AreSettings}
 use Rattle.knx_model.specs.Rules.{first_broken, model_of, is_out_of}
 use Rattle.table_compiler.specs.Order.{AreApart}
 use Rattle.table_compiler.specs.Settings.{settings}
-use Rattle.table_compiler.proofs.LinkLists as links
+use Rattle.table_compiler.proofs.LinkLists as lists
 use Rattle.table_compiler.proofs.Settings.{laid_are, are_settings}
 use Rattle.table_compiler.proofs.Sound.{value_in_range}
 
@@ -46,14 +47,14 @@ inline_sound = record {
 
 -- ---- the links of the lines
 
-pub few_links : (catalogue : List NamedModel) (device : IndAddr) (ss : List Statement) (lines : List (ℕ × GroupAddr)) → first_broken catalogue ss ≡ None → lines ≡ link_lines device ss → length (links_of lines) ≤ 2047
-few_links catalogue device ss lines sound are = subst (λ (ls : List (ℕ × GroupAddr)). length (links_of ls) ≤ 2047) (sym are) (links.few_links catalogue device ss sound)
+pub few_links : (catalogue : List NamedModel) (device : IndAddr) (ss : List Statement) (links : List LinkSpec) → first_broken catalogue ss ≡ None → links ≡ links_of (last_send device ss) (link_lines device ss) → length links ≤ 2047
+few_links catalogue device ss links sound are = subst (λ (ls : List LinkSpec). length ls ≤ 2047) (sym are) (lists.few_links catalogue device ss sound)
 
-pub few_range : (catalogue : List NamedModel) (device : IndAddr) (ss : List Statement) → first_broken catalogue ss ≡ None → length (links_of (link_lines device ss)) < 65536
-few_range catalogue device ss sound = omega (arith, links.few_links catalogue device ss sound)
+pub few_range : (catalogue : List NamedModel) (device : IndAddr) (ss : List Statement) → first_broken catalogue ss ≡ None → length (links_of (last_send device ss) (link_lines device ss)) < 65536
+few_range catalogue device ss sound = omega (arith, lists.few_links catalogue device ss sound)
 
-pub once : (catalogue : List NamedModel) (device : IndAddr) (ss : List Statement) (lines : List (ℕ × GroupAddr)) → first_broken catalogue ss ≡ None → lines ≡ link_lines device ss → AllPairs AreApart (links_of lines)
-once catalogue device ss lines sound are = subst (λ (ls : List (ℕ × GroupAddr)). AllPairs AreApart (links_of ls)) (sym are) (links.once catalogue device ss sound)
+pub once : (catalogue : List NamedModel) (device : IndAddr) (ss : List Statement) (links : List LinkSpec) → first_broken catalogue ss ≡ None → links ≡ links_of (last_send device ss) (link_lines device ss) → AllPairs AreApart links
+once catalogue device ss links sound are = subst (λ (ls : List LinkSpec). AllPairs AreApart ls) (sym are) (lists.once catalogue device ss sound)
 
 -- ---- the settings of the lines
 

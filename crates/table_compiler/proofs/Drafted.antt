@@ -13,23 +13,26 @@ use Rattle.std.proofs.lemmas.List.Kept.{AllPairs-from_increasing}
 use Rattle.knx_model.specs.declared.address.IndAddr.{IndAddr}
 use Rattle.knx_model.specs.declared.project.Statement.{Statement}
 use Rattle.knx_model.specs.declared.project.What.{What}
-use Rattle.knx_model.specs.declared.project.What.TheVariants.{Title, Group, Device, Object, Link, Flags, Param}
-use Rattle.knx_model.specs.Meaning.{link_line, object_line, flags_line, param_line}
+use Rattle.knx_model.specs.declared.project.What.TheVariants.{Version, Title, Group, Device, Object, Link, Send, Flags, Param}
+use Rattle.knx_model.specs.Meaning.{links_said, link_lines, send_line, object_line, flags_line, param_line}
 use Rattle.knx_model.specs.Rules.{model_in}
 use Rattle.project_check.specs.Devices.{raw_of}
 use Rattle.project_check.proofs.Steps.{first_more}
 use Rattle.table_compiler.specs.Drafts.{names, text_of, Adds, IsDraft, AreDrafts}
 use Rattle.table_compiler.specs.Settings.{value_in}
+use Rattle.table_compiler.proofs.LinksMore.{links_more}
 use Rattle.table_compiler.specs.declared.drafts.Draft.{Draft}
 
 -- ---- a line that doesn't name the device says nothing of it
 
-no_link : (device : IndAddr) (what : What) → names device.raw what ≡ false → link_line device what ≡ None
+no_link : (device : IndAddr) (what : What) → names device.raw what ≡ false → links_said device what ≡ []
 no_link device (Title name) e = refl
 no_link device (Group group name) e = refl
 no_link device (Device of model) e = refl
 no_link device (Object of n size flags) e = refl
-no_link device (Link of object group) e = rw e refl
+no_link device (Link of object groups) e = rw e refl
+no_link device Version e = refl
+no_link device (Send of object group) e = refl
 no_link device (Flags of object flags) e = refl
 no_link device (Param of name value) e = refl
 
@@ -38,7 +41,9 @@ no_object device (Title name) e = refl
 no_object device (Group group name) e = refl
 no_object device (Device of model) e = refl
 no_object device (Object of n size flags) e = rw e refl
-no_object device (Link of object group) e = refl
+no_object device (Link of object groups) e = refl
+no_object device Version e = refl
+no_object device (Send of object group) e = refl
 no_object device (Flags of object flags) e = refl
 no_object device (Param of name value) e = refl
 
@@ -47,16 +52,31 @@ no_flags device n (Title name) e = refl
 no_flags device n (Group group name) e = refl
 no_flags device n (Device of model) e = refl
 no_flags device n (Object of m size flags) e = refl
-no_flags device n (Link of object group) e = refl
+no_flags device n (Link of object groups) e = refl
+no_flags device n Version e = refl
+no_flags device n (Send of object group) e = refl
 no_flags device n (Flags of object flags) e = rw e refl
 no_flags device n (Param of name value) e = refl
+
+no_send : (device : IndAddr) (n : ℕ) (what : What) → names device.raw what ≡ false → send_line device n what ≡ None
+no_send device n Version e = refl
+no_send device n (Title name) e = refl
+no_send device n (Group group name) e = refl
+no_send device n (Device of model) e = refl
+no_send device n (Object of m size flags) e = refl
+no_send device n (Link of object groups) e = refl
+no_send device n (Send of object group) e = rw e refl
+no_send device n (Flags of object flags) e = refl
+no_send device n (Param of name value) e = refl
 
 no_param : (device : IndAddr) (parameter : List ℕ) (what : What) → names device.raw what ≡ false → param_line device parameter what ≡ None
 no_param device parameter (Title name) e = refl
 no_param device parameter (Group group name) e = refl
 no_param device parameter (Device of model) e = refl
 no_param device parameter (Object of n size flags) e = refl
-no_param device parameter (Link of object group) e = refl
+no_param device parameter (Link of object groups) e = refl
+no_param device parameter Version e = refl
+no_param device parameter (Send of object group) e = refl
 no_param device parameter (Flags of object flags) e = refl
 no_param device parameter (Param of name value) e = rw e refl
 
@@ -65,7 +85,9 @@ no_model d (Title name) e = refl
 no_model d (Group group name) e = refl
 no_model d (Device of model) e = rw e refl
 no_model d (Object of n size flags) e = refl
-no_model d (Link of object group) e = refl
+no_model d (Link of object groups) e = refl
+no_model d Version e = refl
+no_model d (Send of object group) e = refl
 no_model d (Flags of object flags) e = refl
 no_model d (Param of name value) e = refl
 
@@ -82,6 +104,7 @@ adds_nothing device what draft other = record {
   objects = rw (no_object device what other) (no_more draft.objects.items);
   flags = λ n lt. rw (no_flags device n what other) refl;
   links = rw (no_link device what other) (no_more draft.links.items);
+  sends = λ n lt. rw (no_send device n what other) refl;
   values = λ name. rw (no_param device name what other) refl;
 }
 
@@ -98,6 +121,7 @@ adds_value device of name value old values named is = record {
   objects = no_more old.objects.items;
   flags = λ n lt. refl;
   links = no_more old.links.items;
+  sends = λ n lt. refl;
   values = λ parameter. rw named (is parameter ∙ or_said (bytes_eq name parameter) value (value_in old.values parameter));
 }
 
@@ -120,7 +144,8 @@ one_more device old new ss s adds is = record {
   model = adds.model ∙ ap (λ o. option_or o (model_in device.raw s.what)) is.model ∙ sym (first_more (model_in device.raw) ss s);
   objects = adds.objects ∙ ap (λ xs. xs ++ cons_option (object_line device s.what) []) is.objects ∙ sym (told_more (object_line device) ss s);
   flags = λ n lt. adds.flags n lt ∙ ap (option_or (flags_line device n s.what)) (is.flags n lt) ∙ sym (last_more (flags_line device n) ss s);
-  links = adds.links ∙ ap (λ xs. xs ++ cons_option (link_line device s.what) []) is.links ∙ sym (told_more (link_line device) ss s);
+  links = adds.links ∙ ap (λ xs. xs ++ links_said device s.what) is.links ∙ sym (links_more device ss s);
+  sends = λ n lt. adds.sends n lt ∙ ap (option_or (send_line device n s.what)) (is.sends n lt) ∙ sym (last_more (send_line device n) ss s);
   values = λ name. adds.values name ∙ ap (option_or (param_line device name s.what)) (is.values name) ∙ sym (last_more (param_line device name) ss s);
 }
 
@@ -139,7 +164,9 @@ names_one d e (Title name) p q = absurd (cc)
 names_one d e (Group group name) p q = absurd (cc)
 names_one d e (Device of model) p q = sym (eqb-true of.raw d p) ∙ eqb-true of.raw e q
 names_one d e (Object of n size flags) p q = sym (eqb-true of.raw d p) ∙ eqb-true of.raw e q
-names_one d e (Link of object group) p q = sym (eqb-true of.raw d p) ∙ eqb-true of.raw e q
+names_one d e (Link of object groups) p q = sym (eqb-true of.raw d p) ∙ eqb-true of.raw e q
+names_one d e Version p q = absurd (cc)
+names_one d e (Send of object group) p q = sym (eqb-true of.raw d p) ∙ eqb-true of.raw e q
 names_one d e (Flags of object flags) p q = sym (eqb-true of.raw d p) ∙ eqb-true of.raw e q
 names_one d e (Param of name value) p q = sym (eqb-true of.raw d p) ∙ eqb-true of.raw e q
 

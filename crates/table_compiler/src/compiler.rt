@@ -67,7 +67,7 @@ fn compile_draft(alloc: Global, catalogue: &Catalogue, draft: &Draft<'_>) -> Res
 {
     let inline = inline(alloc);
     let model = model_of(catalogue, &inline, draft.model);
-    let links = links_of(alloc, draft.links.as_slice())?;
+    let links = links_of(alloc, &draft.sends, draft.links.as_slice())?;
     let objects = objects_of(alloc, model, draft)?;
     let settings = settings(alloc, model, &draft.values)?;
     let params = lay(alloc, model, settings.as_slice())?;

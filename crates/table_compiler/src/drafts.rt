@@ -5,6 +5,7 @@ ghost use Rattle.std.specs.List.{list_any};
 ghost use Rattle.std.specs.List.Sorted.{IsStrictlyIncreasing};
 ghost use Rattle.knx_model.specs.declared.address.IndAddr.{IndAddr as Address};
 ghost use Rattle.knx_model.specs.declared.project.Statement.{Statement as Stated};
+ghost use Rattle.knx_model.specs.Meaning.{link_to};
 ghost use Rattle.project_check.specs.Devices.{raw_of};
 ghost use Rattle.table_compiler.specs.Drafts.{names, Adds, AreDrafts, IsDraft};
 
@@ -22,8 +23,10 @@ pub struct Draft<'a> {
     pub objects: Vec<(u8, ObjSpec)>,
     /// The flags of the last `flags` line of each object.
     pub flags: [Option<u8>; 256],
-    /// The object and the group in each of its `link` lines, in order.
+    /// The object and each group of its `link` lines, in order.
     pub links: Vec<(u8, GroupAddr)>,
+    /// The group of the last `send` line of each object.
+    pub sends: [Option<GroupAddr>; 256],
     /// The value of the last `param` line of each name.
     pub values: BTreeMap<&'a [u8], u32>,
 }
@@ -36,6 +39,28 @@ fn keep_flags(kept: &mut [Option<u8>; 256], object: u8, flags: u8)
     kept[usize::from(object)] = Some(flags);
 }
 
+/// Keeps the sending group of an object.
+fn keep_send(kept: &mut [Option<GroupAddr>; 256], object: u8, group: GroupAddr)
+    ensures whole { length kept.new ≡ 256 }
+    ensures each { (n : ℕ) → n < 256 → slice_index_or kept.new n None ≡ (if object == n then Some group else slice_index_or kept.old n None) }
+{
+    kept[usize::from(object)] = Some(group);
+}
+
+/// Adds the links of an object to these groups.
+fn add_links(
+    links: &mut Vec<(u8, GroupAddr)>,
+    object: u8,
+    groups: &[GroupAddr],
+) -> Result<(), AllocError>
+    ensures { OnOk result (links.new.items ≡ links.old.items ++ map (link_to object) groups.now) }
+{
+    for group in groups {
+        links.push((object, *group))?;
+    }
+    Ok(())
+}
+
 impl<'a> Draft<'a> {
     /// What no lines say. It takes no memory.
     fn new(alloc: Global) -> Draft<'a>
@@ -46,6 +71,7 @@ impl<'a> Draft<'a> {
             objects: Vec::new(alloc),
             flags: [None; 256],
             links: Vec::new(alloc),
+            sends: [None; 256],
             values: BTreeMap::new(alloc),
         }
     }
@@ -55,7 +81,7 @@ impl<'a> Draft<'a> {
         ensures { OnOk result ((device : Address) → names device.raw what.now ≡ true → Adds device what.now self.old self.new) }
     {
         match what {
-            What::Title(_) | What::Group { .. } => Ok(()),
+            What::Version | What::Title(_) | What::Group { .. } => Ok(()),
             What::Device { model, .. } => {
                 self.model = self.model.or(Some(model.as_slice()));
                 Ok(())
@@ -68,8 +94,11 @@ impl<'a> Draft<'a> {
                 self.objects.push((*n, spec))?;
                 Ok(())
             }
-            What::Link { object, group, .. } => {
-                self.links.push((*object, *group))?;
+            What::Link { object, groups, .. } => {
+                add_links(&mut self.links, *object, groups.as_slice())
+            }
+            What::Send { object, group, .. } => {
+                keep_send(&mut self.sends, *object, *group);
                 Ok(())
             }
             What::Flags { object, flags, .. } => {
@@ -93,9 +122,10 @@ fn device_of(what: &What<'_>) -> Option<IndAddr>
         What::Device { device, .. }
         | What::Object { device, .. }
         | What::Link { device, .. }
+        | What::Send { device, .. }
         | What::Flags { device, .. }
         | What::Param { device, .. } => Some(*device),
-        What::Title(_) | What::Group { .. } => None,
+        What::Version | What::Title(_) | What::Group { .. } => None,
     }
 }
 

@@ -1,6 +1,6 @@
 //! Projects that are printed, and made of statements.
 
-use knx_model::{GroupAddr, IndAddr, List, Octets, Statement, What};
+use knx_model::{GroupAddr, Groups, IndAddr, List, Octets, Statement, What};
 use project_text::{Project, print_project, read_project};
 use std::alloc::Global;
 use std::test::Fail;
@@ -31,6 +31,10 @@ fn what_is_read_is_printed(rt: HostRuntime) -> Result<(), Fail> {
             b"param 1.1.5 b 0xFFFFFFFF\n\nparam 1.1.5 c 0000000000",
             b"param 1.1.5 b 4294967295\nparam 1.1.5 c 0\n",
         ),
+        (
+            b"# 2\nversion 0x2\nga 1/515 a\nlink 1.1.5 1 1/515 1 31/2047\nsend 1.1.5 1 65535",
+            b"version 2\nga 1/2/3 a\nlink 1.1.5 1 1/2/3 0/0/1 31/7/255\nsend 1.1.5 1 31/7/255\n",
+        ),
     ];
     for (text, wanted) in table {
         let octets = printed(rt.alloc(), text)?;
@@ -52,10 +56,44 @@ fn statements_in_ascending_lines_make_a_project(rt: HostRuntime) -> Result<(), F
         let link = What::Link {
             device,
             object: 1,
-            group: GroupAddr { raw: 1 },
+            groups: Groups::one(rt.alloc(), GroupAddr { raw: 1 }),
         };
         for (line, what) in [(first, flags), (second, link)] {
             let statement = Statement { line, what };
+            statements.push(statement).ok().ok_or("memory")?;
+        }
+        assert_eq!(rt; Project::new(statements).is_some(), is_project);
+    }
+    Ok(())
+}
+
+/// A `link` line of two groups.
+fn two_links<'a>(alloc: Global) -> Result<What<'a>, Fail> {
+    let mut groups = Groups::one(alloc, GroupAddr { raw: 1 });
+    groups.push(GroupAddr { raw: 2 }).ok().ok_or("memory")?;
+    Ok(What::Link {
+        device: IndAddr { raw: 0x1105 },
+        object: 1,
+        groups,
+    })
+}
+
+#[test]
+fn a_version_is_told_first_and_lets_a_line_have_several_groups(
+    rt: HostRuntime,
+) -> Result<(), Fail> {
+    for (told_at, is_project) in [(0, true), (1, false), (2, false)] {
+        let mut statements = List::new(rt.alloc());
+        for place in 0..2 {
+            let what = if place == told_at {
+                What::Version
+            } else {
+                two_links(rt.alloc())?
+            };
+            let statement = Statement {
+                line: place + 1,
+                what,
+            };
             statements.push(statement).ok().ok_or("memory")?;
         }
         assert_eq!(rt; Project::new(statements).is_some(), is_project);

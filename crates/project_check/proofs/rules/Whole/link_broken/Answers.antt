@@ -16,7 +16,7 @@ returns c = λ catalogue before all h k repeats.
     let size : c.known_object-known.result.size ≡ size_of catalogue all d n = ap (λ (l : KnownObject). l.size) known in
     c.first_broken_rule.ensures ∙ rw (
       k,
-      c.has_group-has_group.ensures catalogue all h.declared,
+      c.lacks_group-lacks_group.ensures catalogue all h,
       lacks,
       c.repeats_link-twice.ensures ∙ sym repeats,
       c.size_differs-differs.ensures catalogue all h,

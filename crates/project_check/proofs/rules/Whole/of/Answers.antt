@@ -11,4 +11,5 @@ returns c = λ catalogue named.
       declared = declared;
       first_objects = c.in_ok-first_objects.ensures catalogue ss declared (c.as_slice.ensures.value ∙ lines);
       first_repeat = c.requires;
+      linked = c.in_ok-linked.ensures (c.as_slice-2.ensures.value ∙ lines);
     }

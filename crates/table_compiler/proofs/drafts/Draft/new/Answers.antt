@@ -8,5 +8,6 @@ returns c = λ device. record {
   objects = search rules;
   flags = λ n lt. get_or-replicate 256 n None None lt;
   links = search rules;
+  sends = λ n lt. get_or-replicate 256 n None None lt;
   values = λ name. search rules;
 }
