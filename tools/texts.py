@@ -17,6 +17,8 @@ FLAGS = "CRWTUI"
 NAME = re.compile(r"[A-Za-z0-9_.\-]{1,32}", re.ASCII)
 NUMBER = re.compile(r"[0-9]{1,10}|0x[0-9A-Fa-f]{1,8}", re.ASCII)
 GROUP = re.compile(r"([0-9]{1,3})/([0-9]{1,3})/([0-9]{1,3})", re.ASCII)
+TWO_LEVELS = re.compile(r"([0-9]{1,3})/([0-9]{1,4})", re.ASCII)
+FREE = re.compile(r"[0-9]{1,5}", re.ASCII)
 DEVICE = re.compile(r"([0-9]{1,3})\.([0-9]{1,3})\.([0-9]{1,3})", re.ASCII)
 NOT_TEXT = re.compile(r"[\x00-\x08\x0a-\x1f\x7f]")
 
@@ -104,6 +106,15 @@ def group_of(word):
     return (main << 11 | middle << 8 | sub) or None if main <= 31 and middle <= 7 and sub <= 255 else None
 
 
+def any_group_of(word):
+    """The same of one in three levels, in two levels or free, as in version 2."""
+    if FREE.fullmatch(word):
+        return int(word) or None if int(word) < 65536 else None
+    match = TWO_LEVELS.fullmatch(word)
+    main, below = (int(part) for part in match.groups()) if match else (32, 0)
+    return (main << 11 | below) or None if main <= 31 and below <= 2047 else group_of(word)
+
+
 def device_of(word):
     match = DEVICE.fullmatch(word)
     area, line, device = (int(part) for part in match.groups()) if match else (16, 0, 0)
@@ -145,17 +156,40 @@ STATEMENTS = {
     "device": [(device_of, ADDRESS), (name_of, TITLE)],
     "object": [(device_of, ADDRESS), (object_of, COUNT), (size_of, COUNT), (flags_of, TITLE)],
     "link": [(device_of, ADDRESS), (object_of, COUNT), (group_of, ADDRESS)],
+    "version": [(number_of, COUNT)],
     "flags": [(device_of, ADDRESS), (object_of, COUNT), (flags_of, TITLE)],
     "param": [(device_of, ADDRESS), (name_of, TITLE), (number_of, COUNT)],
 }
 
 
-def statement(text):
-    """A statement's words with what is read of them; raises Refused with the reason alone."""
-    first, *words = re.split(r"[ \t]+", text.strip(" \t"))
-    if first not in STATEMENTS:
+LATER = {
+    **STATEMENTS,
+    "ga": [(any_group_of, ADDRESS), (name_of, TITLE)],
+    "link": [(device_of, ADDRESS), (object_of, COUNT), (any_group_of, ADDRESS)],
+    "send": [(device_of, ADDRESS), (object_of, COUNT), (any_group_of, ADDRESS)],
+}
+MOST_GROUPS = 32
+
+
+def words_in(text):
+    return re.split(r"[ \t]+", text.strip(" \t"))
+
+
+def tells_version_2(words):
+    return len(words) == 2 and words[0] == "version" and number_of(words[1]) == 2
+
+
+def statement(words, table, tells):
+    """A statement's words with what is read of them, those of `link` with its groups as a list; raises Refused with the reason alone.
+
+    The table is that of the text's version; `tells` says whether this is the line that tells version 2.
+    """
+    first, *words = words
+    if first not in table:
         raise Refused(f"3 UnknownWord: {first}")
-    places = STATEMENTS[first]
+    places = table[first]
+    if first == "link" and table is LATER:
+        places = places + places[-1:] * (min(MOST_GROUPS + 2, len(words)) - len(places))
     read = [first]
     for word, (reader, why) in zip(words, places):
         value = reader(word)
@@ -166,7 +200,9 @@ def statement(text):
         raise Refused("7 MissingWord")
     if len(words) > len(places):
         raise Refused(f"8 ExtraWord: {words[len(places)]}")
-    return read
+    if first == "version" and not tells:
+        raise Refused(f"23 BadVersion: {words[0]}")
+    return [*read[:3], read[3:]] if first == "link" else read
 
 
 def lines_of(name):
@@ -174,6 +210,7 @@ def lines_of(name):
     octets = read_octets(name)
     if len(octets) > MOST_OCTETS:
         raise Refused(f"19 TooMany: more than {MOST_OCTETS} octets", name)
+    table = None
     for number, line in enumerate(octets.removesuffix(b"\n").split(b"\n") if octets else [], 1):
         line = line.removesuffix(b"\r")
         try:
@@ -184,9 +221,13 @@ def lines_of(name):
             raise Refused(f"1 NotText: an octet {ord(match[0]):02X}", name, number)
         if len(line) > LONGEST_LINE:
             raise Refused(f"2 LongLine: {len(line)} octets", name, number)
-        words, _, comment = text.partition("#")
+        said, _, comment = text.partition("#")
+        words = words_in(said) if said.strip(" \t") else None
+        tells = table is None and words is not None and tells_version_2(words)
+        if words and table is None:
+            table = LATER if tells else STATEMENTS
         try:
-            yield number, statement(words) if words.strip(" \t") else None, comment.strip(" \t")
+            yield number, words and statement(words, table, tells), comment.strip(" \t")
         except Refused as refused:
             raise Refused(str(refused), name, number) from refused
 
@@ -240,8 +281,11 @@ class Project:
         for line, device, number, flags in of("flags"):
             if self.has_object(line, device, number):
                 self.objects[device, number] = (self.objects[device, number][0], flags)
-        for line, device, number, group in of("link"):
-            self.link(line, device, number, group)
+        for line, device, number, groups in of("link"):
+            for group in groups:
+                self.link(line, device, number, group)
+        for line, device, number, group in of("send"):
+            self.send(line, device, number, group)
         if self.wrong:
             line, number, why = min(self.wrong)
             raise Refused(f"{number} {why}", name, line)
@@ -264,6 +308,13 @@ class Project:
         if known and (device, number) not in self.objects and self.devices[device] in self.models:
             self.wrong.append((line, 14, f"UnknownObject: {number} of {device_text(device)}"))
         return (device, number) in self.objects
+
+    def send(self, line, device, number, group):
+        if group not in self.groups:
+            self.wrong.append((line, 11, f"UnknownGroup: {group_text(group)}"))
+        self.has_object(line, device, number)
+        if (device, number, group) not in self.links:
+            self.wrong.append((line, 22, f"NotLinked: {device_text(device)} {number} {group_text(group)}"))
 
     def link(self, line, device, number, group):
         if group not in self.groups:

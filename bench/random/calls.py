@@ -1,7 +1,7 @@
 """Random calls of `knx`: their words and files. Most are valid; some have one thing wrong."""
 import pathlib
 
-from formats import SIZES, individual_text, group_text
+from formats import SIZES, any_group, individual_text, group_text
 
 EXAMPLES = pathlib.Path(__file__).resolve().parents[2] / "examples"
 OFFICE = (EXAMPLES / "office.toml").read_bytes()
@@ -66,13 +66,39 @@ def project(r, models, line):
             says += [f"flags {device} {n} {letters(r)}"] * (r.random() < 0.2)
         says += [f"param {device} {name} {digits(r, r.randint(low, high))}" for name, (low, high) in fields.items() for _ in range(r.randrange(0, 3))]
     r.shuffle(says)
-    return says
+    return later(r, says) if r.random() < 0.3 else says
+
+
+def any_word(r, group):
+    """A group in one of its spellings in version 2."""
+    main, middle, below = (int(part) for part in group.split("/"))
+    return r.choice((group, f"{main}/{middle << 8 | below}", str(main << 11 | middle << 8 | below), f"{main:02}/{middle << 8 | below:04}"))
+
+
+def later(r, says):
+    """The same in version 2: some links of an object in one line, groups in any spelling, and sending addresses."""
+    links, rest = {}, []
+    for say in says:
+        words = say.split(" ")
+        if words[0] == "link":
+            links.setdefault((words[1], int(words[2], 0)), []).append(words[3])
+        else:
+            rest.append(say if words[0] != "ga" else f"ga {any_word(r, words[1])} {words[2]}")
+    for (device, n), groups in links.items():
+        while groups:
+            k = r.randint(1, min(32, len(groups)))
+            rest.append(f"link {device} {digits(r, n)} " + " ".join(any_word(r, to) for to in groups[:k]))
+            rest += [f"send {device} {digits(r, n)} {any_word(r, r.choice(groups[:k]))}"] * (r.random() < 0.3)
+            groups = groups[k:]
+    r.shuffle(rest)
+    return [r.choice(("version 2", "version 2", "version 0x2", "version 02")), *rest]
 
 
 STRAY = ("project a b", "ga 1/2/3 light", "ga 0/0/0 x", "device 1.1.5 inline", "device 1.1.6 nomodel", "object 1.1.5 1 1 CW", "object 1.1.5 1 9 CW",
          "object 1.1.9 1 1 CC", "link 1.1.5 1 1/2/3", "link 1.1.5 9 31/7/255", "flags 1.1.5 3 C", "param 1.1.5 delay 4000", "param 1.1.5 delay 7",
          "param 1.1.5 none 1", "lose up", "Device 1.1.5 inline", "link 1.1.5 256 1/2/3", "\u00e4", "project \u00e4", "ga 1/2/3 a\tb", "device 1.1.5",
-         "#" * 513, "cut 1.1.5 1 1", "object 1.1.5 255 0x70 -", "link 1.1.5 1", "flags 1.1.6 1 CRWTUI", "project", "param 1.1.5 delay 0x1G", "ga 1/2/3 x y")
+         "#" * 513, "cut 1.1.5 1 1", "object 1.1.5 255 0x70 -", "link 1.1.5 1", "flags 1.1.6 1 CRWTUI", "project", "param 1.1.5 delay 0x1G", "ga 1/2/3 x y",
+         "version 2", "version 3", "version", "send 1.1.5 1 1/2/3", "send 1.1.5 1", "ga 1/515 light", "ga 65536 x", "ga 1/2048 x", "link 1.1.5 1 1/2/3 515")
 
 
 def astray(r, says, stray):
@@ -173,7 +199,7 @@ def sim(r):
     words += ["log"] * (r.random() < 0.4) + ["quiet"] * (r.random() < 0.1) + ["catalogue=cat"] * (bool(models) or r.random() < 0.1)
     words += [r.choice(ODD_WORDS)] * (r.random() < 0.04)
     r.shuffle(words)
-    groups = [say.split()[1] for say in new if say.startswith("ga ")]
+    groups = [group_text(any_group(say.split()[1])) for say in new if say.startswith("ga ")]
     says = script(r, devices) + (telegrams(r, groups) if groups and r.random() < 0.25 else [])
     files = {"new": text_of(r, new), "old": text_of(r, old), "script": text_of(r, says, STRAY_LINES), "cat": wrong_document(r, document)}
     return ["sim", "new", "old", "script", *words], files

@@ -7,7 +7,8 @@ LONGEST = 4194304
 SIZES = {1: 0, 2: 1, 3: 2, 4: 3, 5: 4, 6: 5, 7: 6, 8: 7, 16: 8, 24: 9, 32: 10, 48: 11, 64: 12, 80: 13, 112: 14}
 WHYS = {1: "NotText", 2: "LongLine", 3: "UnknownWord", 4: "BadAddress", 5: "BadNumber", 6: "BadName", 7: "MissingWord", 8: "ExtraWord",
         9: "DuplicateDevice", 10: "DuplicateGroup", 11: "UnknownGroup", 12: "UnknownModel", 13: "DuplicateObject", 14: "UnknownObject",
-        15: "DuplicateLink", 16: "UnknownParameter", 17: "OutOfRange", 18: "SizeDiffers", 19: "TooMany", 20: "NoDevice", 21: "NotBuilt"}
+        15: "DuplicateLink", 16: "UnknownParameter", 17: "OutOfRange", 18: "SizeDiffers", 19: "TooMany", 20: "NoDevice", 21: "NotBuilt",
+        22: "NotLinked", 23: "BadVersion"}
 
 
 class Refused(Exception):
@@ -51,6 +52,17 @@ def group(word):
     return (numbers[0] << 11 | numbers[1] << 8 | numbers[2]) or None if numbers else None
 
 
+def any_group(word):
+    """A group in three levels, in two levels or free."""
+    if "/" not in word:
+        return (int(word) if re.fullmatch("[0-9]{1,5}", word) and int(word) < 65536 else 0) or None
+    levels = re.fullmatch("([0-9]{1,3})/([0-9]{1,4})", word)
+    if not levels:
+        return group(word)
+    main, below = int(levels[1]), int(levels[2])
+    return (main << 11 | below) or None if main < 32 and below < 2048 else None
+
+
 def number(word):
     if re.fullmatch("[0-9]{1,10}", word):
         return int(word) if int(word) < 2 ** 32 else None
@@ -85,9 +97,11 @@ OBJECT = one_of(*range(1, 256))
 # how a word in a place is read, and the refusal of one that can't be
 PLACES = {"individual": (individual, 4), "group": (group, 4), "object": (OBJECT, 5), "size": (one_of(*SIZES), 5), "value": (number, 5),
           "count": (positive, 5), "status": (status, 5), "group-value": (group_value, 5), "name": (name, 6), "flags": (flags, 6),
-          "of-unit": (of_unit, 4), "mode": (mode, 3)}
+          "of-unit": (of_unit, 4), "mode": (mode, 3), "any-group": (any_group, 4)}
 STATEMENTS = {"project": "name", "ga": "group name", "device": "individual name", "object": "individual object size flags",
-              "link": "individual object group", "flags": "individual object flags", "param": "individual name value"}
+              "link": "individual object group", "flags": "individual object flags", "param": "individual name value", "version": "value"}
+# of version 2; a place with a plus takes up to 32 words
+LATER = {**STATEMENTS, "ga": "any-group name", "link": "individual object any-group+", "send": "individual object any-group"}
 SCRIPT_LINES = {"lose": {"up": "count", "down": "count", "to": "individual count", "from": "individual count"},
                 "repeat": {"up": "count", "down": "count", "to": "individual count"}, "drop": {"channel": "count"},
                 "then": {"group": "group group-value"}, "cut": "individual count value", "worn": "individual count",
@@ -129,20 +143,32 @@ def read_line(line, words, table):
         places = places.get(said[-1])
         if places is None:
             raise Refused(line, 3)
-    values = []
-    for place, word in zip(places.split(), words[len(said):]):
+    wanted, values = places.split(), []
+    if wanted and wanted[-1].endswith("+"):
+        several = wanted.pop()[:-1]
+        wanted += [several] * max(1, min(32, len(words) - len(said) - len(wanted)))
+    for place, word in zip(wanted, words[len(said):]):
         read, why = PLACES[place]
         values.append(read(word))
         if values[-1] is None:
             raise Refused(line, why)
-    missing = len(places.split()) - len(values)
+    missing = len(wanted) - len(values)
     if missing or len(words) > len(said) + len(values):
         raise Refused(line, 7 if missing else 8)
     return line, " ".join(said), values
 
 
 def statements_of(octets):
-    return [read_line(line, words, STATEMENTS) for line, words in lines_of(octets)]
+    """The statements; the first line with words tells the version. A `link` line has its groups as one value."""
+    said, table = [], None
+    for line, words in lines_of(octets):
+        tells = table is None and len(words) == 2 and words[0] == "version" and number(words[1]) == 2
+        table = table or (LATER if tells else STATEMENTS)
+        _, word, values = read_line(line, words, table)
+        if word == "version" and not tells:
+            raise Refused(line, 23)
+        said.append((line, word, [*values[:2], values[2:]] if word == "link" else values))
+    return said
 
 
 def units_of(octets):
@@ -180,8 +206,10 @@ class Project:
             elif word == "object":
                 self.declared.setdefault((values[0], values[1]), values[2])
             elif word == "link":
-                self.leads.setdefault(values[2], (values[0], values[1]))
+                for to in values[2]:
+                    self.leads.setdefault(to, (values[0], values[1]))
         self.groups = {values[0] for _, word, values in self.statements if word == "ga"}
+        self.linked = {(values[0], values[1], to) for _, word, values in self.statements if word == "link" for to in values[2]}
         self.check()
 
     def of(self, word, device):
@@ -199,20 +227,26 @@ class Project:
         seen, links, devices = set(), {}, 0
         for line, word, values in self.statements:
             broken = set()
-            if word in ("device", "ga", "object", "link"):
-                key = (word, *values[:{"device": 1, "ga": 1, "object": 2, "link": 3}[word]])
+            if word in ("device", "ga", "object"):
+                key = (word, *values[:{"device": 1, "ga": 1, "object": 2}[word]])
                 if key in seen and (word != "object" or self.model_of(values[0])):
-                    broken.add({"device": 9, "ga": 10, "object": 13, "link": 15}[word])
+                    broken.add({"device": 9, "ga": 10, "object": 13}[word])
                 seen.add(key)
             if word == "device":
                 devices += 1
                 broken |= {12} if values[1] not in self.models else set()
                 broken |= {19} if devices > 255 else set()
             if word == "link":
-                links[values[0]] = links.get(values[0], 0) + 1
-                broken |= {11} if values[2] not in self.groups else set()
+                links[values[0]] = links.get(values[0], 0) + len(values[2])
+                for to in values[2]:
+                    broken |= {11} if to not in self.groups else set()
+                    broken |= {15} if ("link", *values[:2], to) in seen else set()
+                    seen.add(("link", *values[:2], to))
                 broken |= {19} if links[values[0]] > 2047 else set()
-            if word in ("object", "link", "flags", "param"):
+            if word == "send":
+                broken |= {11} if values[2] not in self.groups else set()
+                broken |= {22} if tuple(values) not in self.linked else set()
+            if word in ("object", "link", "send", "flags", "param"):
                 broken |= self.broken_of(word, *values) if values[0] in self.model else {20}
             if broken:
                 raise Refused(line, min(broken), {"device": 255, "link": 2047}.get(word) if min(broken) == 19 else None)
@@ -222,25 +256,26 @@ class Project:
         model, broken = self.model_of(device), set()
         if model and word == "object" and what in model["objects"]:
             broken.add(13)
-        if model and word in ("link", "flags") and what not in model["objects"] and (device, what) not in self.declared:
+        if model and word in ("link", "send", "flags") and what not in model["objects"] and (device, what) not in self.declared:
             broken.add(14)
         if model and word == "param":
             field = model["parameters"].get(what)
             broken |= {16} if field is None else {17} if not field["min"] <= rest[0] <= field["max"] else set()
         if word == "link":
-            mine, first = self.size(device, what), self.size(*self.leads[rest[0]])
-            broken |= {18} if None not in (mine, first) and mine != first else set()
+            for to in rest[0]:
+                mine, first = self.size(device, what), self.size(*self.leads[to])
+                broken |= {18} if None not in (mine, first) and mine != first else set()
         return broken
 
     def counts(self):
         objects = sum(word == "object" for _, word, _ in self.statements) + sum(len(self.model_of(d)["objects"]) for d in self.model)
-        return f"ok devices {len(self.model)} objects {objects} links {sum(word == 'link' for _, word, _ in self.statements)}\n"
+        return f"ok devices {len(self.model)} objects {objects} links {len(self.linked)}\n"
 
     def image(self, device):
         """The four lists of octets of one device."""
-        model, links = self.model_of(device) or INLINE, self.of("link", device)
+        model, links = self.model_of(device) or INLINE, [(n, to) for n, groups in self.of("link", device) for to in groups]
         groups = sorted({to for _, to in links})
-        sending = {n: to for n, to in reversed(links)}
+        sending = {**{n: to for n, to in reversed(links)}, **dict(self.of("send", device))}
         pairs = sorted((n, sending[n] != to, groups.index(to) + 1) for n, to in links)
         objects = {**model["objects"], **{n: tuple(rest) for n, *rest in self.of("object", device)}}
         for n, letters in self.of("flags", device):

@@ -38,6 +38,19 @@ OF_RULES = [
     ("link 1.1.5 1 1/2/3", "15 DuplicateLink: 1.1.5 1 1/2/3"),
     ("object 1.1.9 1 1 CW", "20 NoDevice: 1.1.9"),
 ]
+OF_VERSION_2 = [
+    ("version 2", "23 BadVersion: 2"),
+    ("version 2 2", "8 ExtraWord: 2"),
+    ("ga 65536 a", "4 BadAddress: 65536"),
+    ("ga 0 a", "4 BadAddress: 0"),
+    ("ga 1/2048 a", "4 BadAddress: 1/2048"),
+    ("ga 1/515 a", "10 DuplicateGroup: 1/2/3"),
+    ("link 1.1.5 1", "7 MissingWord"),
+    ("link 1.1.5 1 " + " ".join(str(n) for n in range(1, 34)), "8 ExtraWord: 33"),
+    ("link 1.1.5 1 2563", "15 DuplicateLink: 1.1.5 1 1/2/3"),
+    ("send 1.1.5 1 1", "11 UnknownGroup: 0/0/1"),
+    ("send 1.1.5 2 1/2/3", "14 UnknownObject: 2 of 1.1.5"),
+]
 
 
 class Texts(ToolTest):
@@ -79,6 +92,18 @@ class Texts(ToolTest):
         self.assertEqual(texts.Project("p").groups, {})
         self.write("p", "ga 1/2/3 light\r\n\t# x\n\nga 1/2/4 lamp")
         self.assertEqual(texts.Project("p").groups, {0x0A03: "light", 0x0A04: "lamp"})
+
+    def test_a_text_of_version_2(self):
+        self.write("p", "# 2\nversion 0x2\nga 1/515 light\nga 1 all\ndevice 1.1.5 inline\nobject 1.1.5 1 1 CW\nlink 1.1.5 1 1/2/3 0/1\nsend 1.1.5 1 1\n")
+        self.assertEqual(list(texts.Project("p").links), [((1, 1, 5), 1, 0x0A03), ((1, 1, 5), 1, 1)])
+        for line, why in OF_VERSION_2:
+            self.write("p", f"version 2\n{LIGHT}{line}\n")
+            with self.subTest(line):
+                self.refused(f"p:6: {why}")
+        self.write("p", "\nversion 3\n")
+        self.refused("p:2: 23 BadVersion: 3")
+        self.write("p", f"{LIGHT}send 1.1.5 1 1/2/3\n")
+        self.refused("p:5: 3 UnknownWord: send")
 
     def test_a_catalogue_is_refused(self):
         self.write("p", "")
