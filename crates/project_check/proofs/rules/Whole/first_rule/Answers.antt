@@ -1,4 +1,4 @@
-use Rattle.std.proofs.Common.{refl, sym, ◌∙◌}
+use Rattle.std.proofs.Common.{◌≡◌, None, refl, sym, ◌∙◌, inl, inr}
 use Rattle.knx_model.specs.Rules.{rule_of}
 use Rattle.std.proofs.lemmas.Slice.Eq.{bytes_eq-Decides}
 use Rattle.project_check.proofs.rules.Whole.first_rule.Goals as goal
@@ -30,7 +30,7 @@ returns-in-Param c = λ catalogue before all h named k repeats.
 
 pub returns-in-Version : goal.returns-in-Version
 unfolding rule_of
-returns-in-Version c = ?
+returns-in-Version c = λ catalogue before all h named k repeats. elim c.in-Version.is as (λ _. None ≡ rule_of catalogue before all c.args.what.now) [ inl is ↦ rw is refl | inr title ↦ rw title.1 refl ]
 
 pub returns-in-Group : goal.returns-in-Group
 unfolding rule_of
