@@ -23,7 +23,7 @@ use Rattle.knx_top.specs.Ran.{log_in}
 -- only where that runs
 abbrev pub MeansOver : Installation → List Job → Story → List LogEntry → Type 0
 MeansOver project jobs Untold log = Unit {0}
-MeansOver project jobs (Recorded r) log = Unit {0}
+MeansOver project jobs (Recorded clock r) log = Unit {0}
 MeansOver project jobs (Full start events) log = OldStoppedOrNew (RunsMeaning project) jobs start events log × MeansWhereDone project jobs start events log
 
 -- all that is told of a run by so many workers, with these jobs and group turns, by what its link told
