@@ -79,7 +79,7 @@ impl Gateway {
 
     /// Counts a poll, and lets the clock jump in it where it is to.
     fn begin_poll(&mut self)
-        ensures { self.old.now ≤ self.new.now }
+        ensures time { self.old.now ≤ self.new.now }
         ensures events { self.new.at ≡ self.old.at }
     {
         self.polls = self.polls.saturating_add(1);
