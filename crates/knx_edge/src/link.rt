@@ -58,6 +58,7 @@ impl<'a, R: Net + Clock, S: Datagrams> UdpLink<'a, R, S> {
     /// Reads the clock; a time before the last one is that.
     fn read_clock(&mut self) -> io::Result<()>
         ensures time { self.old.time ≤ self.new.time }
+        ensures failed { OnErr result (self.new.time ≡ self.old.time) }
         ensures others { self.new ≡ record self.old { time = self.new.time } }
     {
         let passed = self.started.elapsed(self.rt)?.as_millis();
@@ -79,6 +80,7 @@ impl<'a, R: Net + Clock, S: Datagrams> UdpLink<'a, R, S> {
         ensures brings { IfOk result (λ polled. LinkBrings self.old.gateway polled into.new (S.coming self.old.socket) (S.coming self.new.socket)) }
         ensures polled { IfOk result (λ polled. PollsSo (Ok polled) into.new wait_ms self.new.time Untold Untold) }
         ensures time { self.old.time ≤ self.new.time }
+        ensures failed { OnErr result (self.new.time ≡ self.old.time) }
         ensures others { self.new ≡ record self.old { time = self.new.time; socket = self.new.socket } }
     {
         let senders = Senders::at(self.gateway);
@@ -179,6 +181,7 @@ impl<R: Net + Clock, S: Datagrams> Link for UdpLink<'_, R, S> {
         ensures cause { FailsWhere result self.old.faults self.new.faults }
         ensures count { self.old.faults ≤ self.new.faults }
         ensures time { self.old.time ≤ self.new.time }
+        ensures failed { OnErr result (self.new.time ≡ self.old.time) }
         ensures events { self.old.done ≤ self.new.done }
         ensures entry { self.new.done ≡ entries_after result self.old.done }
     {

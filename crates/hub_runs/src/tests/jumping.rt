@@ -17,8 +17,8 @@ use std::thread::Threads;
 /// More polls than a load of the device makes.
 const MANY: u64 = 4_000;
 
-/// Longer than the client's waits but the pause between two heartbeats.
-const JUMP_MS: u64 = 20_000;
+/// Longer than the client's waits but the pause between two heartbeats, in milliseconds.
+const LONG: u64 = 20_000;
 
 /// A load, in whose n-th poll the clock jumps.
 fn run<R: Abort + Threads + Wait + Sync>(
@@ -31,7 +31,7 @@ fn run<R: Abort + Threads + Wait + Sync>(
     let groups = group_turns(alloc, &[])?;
     let jump = Jump {
         poll: n,
-        ms: JUMP_MS,
+        ms: LONG,
     };
     let link = Gateway::new(alloc, Device::blank(alloc, DEVICE)?, Mood::Answers).jumping(jump);
     let nobody: Option<FixedWatcher> = None;
