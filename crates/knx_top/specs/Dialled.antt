@@ -35,7 +35,7 @@ pub record IsToldOver (workers : ℕ) (turns : List GroupTurn) (jobs : List Job)
   -- the client keeps the discipline of the line, and so the headline holds
   pub keeps : Keeps jobs turns story (log_in report)
   pub right : IsRightOver jobs story (log_in report)
-  -- it loses no time, ends its jobs and loses its channels thoroughly, and leaves the open one rightly
+  -- it loses no time, so far as its link's clock allows to say, ends its jobs and loses its channels thoroughly, and leaves the open one rightly
   pub hastens : HastensIn jobs turns (log_in report) story
   pub thorough : IsThoroughOver jobs story (log_in report)
   pub leaves : LeavesOver jobs turns story (log_in report)
