@@ -70,7 +70,7 @@ some_is x y e = cc
 
 new_places : (s : Story) → IsNewLink s → (places : List Placed) → places_in s ≡ Some places → places ≡ []
 new_places Untold n places e = absurd (let z : None ≡ Some places = e in cc)
-new_places (Recorded r) n places e = sym (some_is (counted r) places e) ∙ ap counted n
+new_places (Recorded clock r) n places e = sym (some_is (counted r) places e) ∙ ap counted n
 new_places (Full start events) n places e = sym (some_is (placed start events) places e) ∙ ap (placed start) n.0
 
 nothing_yet : (wanted : IndAddr) (e : Ear) → e ≡ record { heard = ear.Nobody; confirmed = None; since = 0 } → Listens wanted e []

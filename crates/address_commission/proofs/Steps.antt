@@ -26,7 +26,7 @@ some_is x y e = cc
 -- what tells places told them before
 pub told_before : (s t : Story) (new : List Placed) → GoesOn s t → places_in t ≡ Some new → (old : List Placed) × (places_in s ≡ Some old)
 told_before Untold t new g e = absurd (let z : None ≡ Some new = sym (ap places_in g) ∙ e in cc)
-told_before (Recorded r) t new g e = (counted r, refl)
+told_before (Recorded clock r) t new g e = (counted r, refl)
 told_before (Full start events) t new g e = (placed start events, refl)
 
 -- these places come from those before by what was added, of which P holds

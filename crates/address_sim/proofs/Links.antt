@@ -4,7 +4,7 @@ use Rattle.std.proofs.lemmas.List.{length-append}
 use Rattle.line_model.specs.declared.outside.link.LinkFault.{LinkFault}
 use Rattle.line_model.specs.declared.outside.link.Polled.{Polled}
 use Rattle.line_model.specs.declared.outside.link.Polled.TheVariants as answer
-use Rattle.line_model.specs.LinkStory.{Recorded, Adds, AreWaits, Polls, PollsRecord, PollsNothing, last_wait, newest_time}
+use Rattle.line_model.specs.LinkStory.{Recorded, Exact, Adds, AreWaits, Polls, PollsRecord, PollsNothing, last_wait, newest_time}
 use Rattle.line_model.specs.Polled.{PollsAs, PollsSo}
 use Rattle.line_model.specs.Record.{Item, Got, Quiet, Entry, entry, item_of}
 use Rattle.line_model.specs.World.{Event}
@@ -42,25 +42,30 @@ pub either_later : {E : Type 0} (result : Result (Unit {0}) E) (old new went : R
 either_later (Ok x) old new went is stays later = subst (RunsLater old) (sym is) later
 either_later (Err why) old new went is stays later = stayed_later old new stays
 
+-- and it takes no time
+pub either_still : {E : Type 0} (result : Result (Unit {0}) E) (old new went : RunNow) → OnOk result (new ≡ went) → OnErr result (new ≡ old) → time went ≡ time old → time new ≡ time old
+either_still (Ok x) old new went is stays still = ap time is ∙ still
+either_still (Err why) old new went is stays still = ap time stays
+
 -- ---- a poll
 
 since_waits : (since : ℕ) (waits : List Entry) → AreWaits since waits → since ≤ last_wait since waits
 since_waits since [] are = omega arith
 since_waits since (x ∷ waits) are = let before : since ≤ last_wait since waits = since_waits since waits are.2 in omega (arith, before, are.1)
 
-record_later : (what : Item) (wait : ℕ) (old new : RunNow) → PollsRecord what wait (time new) (entries old) (entries new) → RunsLater old new
+record_later : (what : Item) (wait : ℕ) (old new : RunNow) → PollsRecord Exact what wait (time new) (entries old) (entries new) → RunsLater old new
 record_later what wait old new polls =
     let since : newest_time (entries old) ≡ time old = newest_now old in
     let before : newest_time (entries old) ≤ last_wait (newest_time (entries old)) polls.waits = since_waits (newest_time (entries old)) polls.waits polls.are in
     let longer : length (entries new) ≡ suc (length polls.waits + length (entries old)) = ap length polls.all ∙ ap suc (length-append polls.waits (entries old)) in
     record { time = omega (arith, since, before, polls.later); entries = omega (arith, longer) }
 
-same_entries : (one other : List Entry) → Recorded one ≡ Recorded other → one ≡ other
+same_entries : (one other : List Entry) → Recorded Exact one ≡ Recorded Exact other → one ≡ other
 same_entries one other e = cc
 
 polls_later : (what : Item) (wait : ℕ) (old new : RunNow) → Polls what wait (time new) (story old) (story new) → RunsLater old new
 polls_later what wait old new polls =
-    record_later what wait old new (subst (λ (es : List Entry). PollsRecord what wait (time new) es (entries new)) (sym (same_entries (entries old) polls.0 polls.1)) polls.2)
+    record_later what wait old new (subst (λ (es : List Entry). PollsRecord Exact what wait (time new) es (entries new)) (sym (same_entries (entries old) polls.0 polls.1)) polls.2)
 
 nothing_later : (old new : RunNow) → story old ≡ story new → RunsLater old new
 nothing_later old new same =
@@ -91,7 +96,7 @@ pub nothing_happened : (wait : ℕ) (old new : RunNow) → new ≡ old → Polls
 nothing_happened wait old new same = ap story (sym same)
 
 pub nothing_seen : (wait : ℕ) (from old new : RunNow) → from ≡ old → SameRecord from new → PollsNothing wait (story old) (story new)
-nothing_seen wait from old new is same = ap story (sym is) ∙ ap Recorded (sym same.entries)
+nothing_seen wait from old new is same = ap story (sym is) ∙ ap (Recorded Exact) (sym same.entries)
 
 pub got_polled : (octets into : List ℕ) (n wait : ℕ) (from old new : RunNow) → from ≡ old → n ≤ 300 → take n into ≡ octets → EndedSo (Some octets) wait from new → PollsAs (answer.Got n) into wait (time new) (story old) (story new)
 got_polled octets into n wait from old new is few same ended =

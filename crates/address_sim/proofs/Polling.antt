@@ -2,7 +2,7 @@
 use Rattle.std.proofs.Common.{◌≡◌, ℕ, ◌+◌, ◌-◌, ◌≤◌, List, [], ◌∷◌, ◌++◌, length, take, Option, Some, None, refl, ap, sym, subst, ◌∙◌, arith}
 use Rattle.std.specs.Prelude.{slice_get, IfNone, OnErr, Result, Ok, Err}
 use Rattle.std.proofs.lemmas.List.{take_all}
-use Rattle.line_model.specs.LinkStory.{Recorded, Polls, PollsRecord, AreWaits, last_wait, newest_time}
+use Rattle.line_model.specs.LinkStory.{Recorded, Exact, Polls, PollsRecord, AreWaits, last_wait, newest_time}
 use Rattle.line_model.specs.Network.{Sent, OfSent}
 use Rattle.line_model.specs.Record.{Item, Got, Quiet, Entry, entry, got}
 use Rattle.tunnel_sim.specs.Tunnels.{AreShort}
@@ -111,7 +111,7 @@ waits_more old mid new left ms wait before adds some few =
 
 -- ---- the end
 
-polls_so : (what : Item) (wait : ℕ) (old new : RunNow) → PollsRecord what wait (time new) (entries old) (entries new) → Polls what wait (time new) (story old) (story new)
+polls_so : (what : Item) (wait : ℕ) (old new : RunNow) → PollsRecord Exact what wait (time new) (entries old) (entries new) → Polls what wait (time new) (story old) (story new)
 polls_so what wait old new polls = (entries old, refl, polls)
 
 pub ends_got : (octets : List ℕ) (old mid new : RunNow) (left wait : ℕ) → WaitsSo old mid left wait → AddsOne (Got octets) (time mid) mid new → length octets ≤ 300 → EndedSo (Some octets) wait old new
@@ -143,8 +143,8 @@ ends_quiet old mid new left wait before adds =
 -- ---- one poll after what happened at once
 
 pub from_same : (got : Option (List ℕ)) (wait : ℕ) (old mid new : RunNow) → SameRecord old mid → EndedSo got wait mid new → EndedSo got wait old new
-from_same None wait old mid new same ended = subst (λ (es : List Entry). Polls Quiet wait (time new) (Recorded es) (story new)) same.entries ended
-from_same (Some octets) wait old mid new same ended = (ended.0, subst (λ (es : List Entry). Polls (Got octets) wait (time new) (Recorded es) (story new)) same.entries ended.1)
+from_same None wait old mid new same ended = subst (λ (es : List Entry). Polls Quiet wait (time new) (Recorded Exact es) (story new)) same.entries ended
+from_same (Some octets) wait old mid new same ended = (ended.0, subst (λ (es : List Entry). Polls (Got octets) wait (time new) (Recorded Exact es) (story new)) same.entries ended.1)
 
 pub short_so : (octets : List ℕ) (sent : List Sent) (age : ℕ) → AreShort sent → OfSent (λ s. s.octets ≡ octets) (slice_get sent age) → length octets ≤ 300
 short_so octets sent age short got = by_sent (slice_get sent age) refl got

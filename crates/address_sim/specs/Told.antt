@@ -2,7 +2,7 @@
 use Rattle.std.specs.Prelude.{ℕ, Bool, ◌&&◌, ◌==◌, List, [], ◌∷◌, map}
 use Rattle.knx_model.specs.declared.address.IndAddr.{IndAddr}
 use Rattle.knx_model.specs.declared.frames.cemi.Ldata.{Ldata}
-use Rattle.line_model.specs.LinkStory.{Story, Recorded}
+use Rattle.line_model.specs.LinkStory.{Story, Recorded, Exact}
 use Rattle.line_model.specs.Tunnel.{fresh}
 use Rattle.address_world.specs.declared.unit.Unit.{Unit as BusUnit}
 use Rattle.address_world.specs.declared.unit.UnitLoss.{UnitLoss}
@@ -38,7 +38,7 @@ abbrev pub time : RunNow → ℕ
 time r = (world r).tunnel.now
 
 abbrev pub story : RunNow → Story
-story r = Recorded (record_of (start r) r.events)
+story r = Recorded Exact (record_of (start r) r.events)
 
 abbrev pub told : RunNow → AddressStory
 told r = Told (start r) r.events

@@ -16,7 +16,7 @@ as_late a b e = omega (arith, e)
 later_by : (a b ms : ℕ) → b ≡ a + ms → a ≤ b
 later_by a b ms e = omega (arith, e)
 
-pub one_later : (w : World) (e : Event) → now w ≤ now (step w e)
+one_later : (w : World) (e : Event) → now w ≤ now (step w e)
 one_later w (Pass ms) = later_by (now w) (now (step w (Pass ms))) ms (passes w ms)
 one_later w e = as_late (now w) (now (step w e)) (timeless w e refl)
 
@@ -24,12 +24,12 @@ one_later w e = as_late (now w) (now (step w e)) (timeless w e refl)
 
 abbrev pub time_of : Story → ℕ
 time_of Untold = 0
-time_of (Recorded r) = 0
+time_of (Recorded clock r) = 0
 time_of (Full start events) = now (replay start events)
 
 abbrev pub place_of : Story → ℕ
 place_of Untold = 0
-place_of (Recorded r) = 0
+place_of (Recorded clock r) = 0
 place_of (Full start events) = length events
 
 pub record IsLater (before after : Story) : Type 0 where

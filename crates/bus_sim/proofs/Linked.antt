@@ -1,5 +1,5 @@
 -- A run as a link: what a call of the run is to the story that the link tells.
-use Rattle.std.proofs.Common.{◌≡◌, ℕ, suc, ◌+◌, ◌≤◌, List, length, Result, Ok, Err, OnErr, IfOk, refl, ap, sym, subst, ◌∙◌, arith}
+use Rattle.std.proofs.Common.{◌≡◌, ℕ, ◌+◌, ◌≤◌, List, length, Result, Ok, Err, OnErr, IfOk, true, refl, ap, sym, subst, ◌∙◌, arith}
 use Rattle.line_model.specs.declared.outside.link.Polled.{Polled}
 use Rattle.line_model.specs.LinkStory.{Full, Adds, FailsFull, PollsNothing, Same}
 use Rattle.line_model.specs.Polled.{PollsAs}
@@ -11,22 +11,14 @@ use Rattle.bus_sim.specs.declared.clients.Clients.TheVariants.{One, Any}
 use Rattle.bus_sim.specs.Begun.{start_of}
 use Rattle.bus_sim.specs.Polls.{StopsRun, StopsWithin}
 use Rattle.bus_sim.specs.RunNow.{RunNow, RunState, happened, seen, start, story, story_of, time, world}
-use Rattle.bus_sim.proofs.Later.{IsLater, goes_later, one_later, polled_later}
+use Rattle.bus_sim.proofs.Grows.{timeless, is_still}
+use Rattle.bus_sim.proofs.Later.{IsLater, goes_later, polled_later}
 use Rattle.bus_sim.proofs.Polling.{one_story}
 
 -- neither its time nor the number of its events falls
 pub record RunsLater (old new : RunNow) : Type 0 where
   pub time : time old ≤ time new
   pub events : length old.events ≤ length new.events
-
-same_number : (n : ℕ) → n ≤ n
-same_number n = omega arith
-
-more : (n : ℕ) → n ≤ suc n
-more n = omega arith
-
-pub stayed_later : (old new : RunNow) → new ≡ old → RunsLater old new
-stayed_later old new same = subst (λ r. RunsLater old r) (sym same) (record { time = same_number (time old); events = same_number (length old.events) })
 
 -- ---- one event of the client
 
@@ -35,8 +27,12 @@ added what e old new one same =
     let told : Adds what e (Full (start old) old.events) (story (happened old e)) = subst (λ s. Adds what e (Full (start old) old.events) s) (sym (one_story (happened old e) one)) (old.events, refl, refl) in
     subst (λ r. Adds what e (story old) (story r)) (sym same) (subst (λ s. Adds what e s (story (happened old e))) (sym (one_story old one)) told)
 
-pub added_later : (e : Event) (old new : RunNow) → new ≡ happened old e → RunsLater old new
-added_later e old new same = subst (λ r. RunsLater old r) (sym same) (record { time = one_later (world old) e; events = more (length old.events) })
+-- which takes no time
+pub added_still : (e : Event) (old new : RunNow) → is_still e ≡ true → new ≡ happened old e → time new ≡ time old
+added_still e old new still same = ap time same ∙ timeless (world old) e still
+
+pub stayed_still : (old new : RunNow) → new ≡ old → time new ≡ time old
+stayed_still old new same = ap time same
 
 -- ---- a poll
 

@@ -5,11 +5,11 @@ use Rattle.line_model.specs.declared.outside.link.Polled.TheVariants as answer
 use Rattle.line_model.specs.Polled.{PollsSo}
 use Rattle.line_model.specs.World.{World, Event, Send, now, replay}
 use Rattle.line_model.specs.Record.{Item, Put, Got, Quiet, Entry, entry, is_poll, noted, record_of}
-use Rattle.line_model.specs.LinkStory.{Story, Untold, Recorded, Full, record_in, newest_time, Sends, GoesOn, Same, More, AreWaits, last_wait, EndsAt, PollsRecord, Polls, PollsNothing}
+use Rattle.line_model.specs.LinkStory.{Story, Untold, Recorded, Full, Exact, Running, newest_time, Sends, GoesOn, Same, More, AreWaits, last_wait, EndsAt, PollsRecord, Polls, PollsNothing}
 use Rattle.tunnel_link.proofs.Clock.{never_falls}
 use Rattle.tunnel_link.proofs.Foreign.{Passes, passes}
 use Rattle.tunnel_link.proofs.Ended.{ends_full}
-use Rattle.discovery_ends.specs.Searching.{quiet_ms, datagrams_in, got_in, is_quiet, before_quiet, IsQuietFor, Listens}
+use Rattle.discovery_ends.specs.Searching.{quiet_ms, datagrams_in, got_in, is_quiet, before_quiet, IsQuietFor, Listens, exact_record_in}
 use Rattle.discovery_ends.specs.Going.{IsAt, Awake, Came, NoneCame}
 
 some_is : {X : Type 0} (a b : X) → Some a ≡ Some b → a ≡ b
@@ -95,24 +95,25 @@ record Brought (what : Item) (r : List Entry) (after : Story) : Type 0 where
   until : ℕ
   are : Waits until waits
   ends : EndsAt what quiet_ms (newest_time r) until
-  told : record_in after ≡ Some (entry what until ∷ (waits ++ r))
+  told : exact_record_in after ≡ Some (entry what until ∷ (waits ++ r))
   time : IsAt after until
 
-brought : (what : Item) (clock : ℕ) (before after : Story) (r : List Entry) → is_poll what ≡ true → Awake before r → Polls what quiet_ms clock before after → Brought what r after
-brought what clock before Untold r poll a h = absurd (let g : (record_in before ≡ None) = rw h refl in let k = a.told in cc)
-brought what clock before (Recorded all) r poll a h =
-    let same : h.0 ≡ r = some_is h.0 r (sym (ap record_in h.1) ∙ a.told) in
-    let p : PollsRecord what quiet_ms clock r all = subst (λ (l : List Entry). PollsRecord what quiet_ms clock l all) same h.2 in
+brought : (what : Item) (until : ℕ) (before after : Story) (r : List Entry) → is_poll what ≡ true → Awake before r → Polls what quiet_ms until before after → Brought what r after
+brought what until before Untold r poll a h = absurd (let g : (exact_record_in before ≡ None) = rw h refl in let k = a.told in cc)
+brought what until before (Recorded Running all) r poll a h = absurd (let g : (exact_record_in before ≡ None) = rw h.1 refl in let k = a.told in cc)
+brought what until before (Recorded Exact all) r poll a h =
+    let same : h.0 ≡ r = some_is h.0 r (sym (ap exact_record_in h.1) ∙ a.told) in
+    let p : PollsRecord Exact what quiet_ms until r all = subst (λ (l : List Entry). PollsRecord Exact what quiet_ms until l all) same h.2 in
     record {
       waits = p.waits;
-      until = clock;
-      are = record_waits (newest_time r) clock p.waits p.are p.later;
+      until = until;
+      are = record_waits (newest_time r) until p.waits p.are p.later;
       ends = p.ends;
       told = ap Some p.all;
       time = ap newest_time p.all;
     }
 brought what clock before (Full start events) r poll a h =
-    let same : record_of start h.0 ≡ r = some_is (record_of start h.0) r (sym (ap record_in h.1) ∙ a.told) in
+    let same : record_of start h.0 ≡ r = some_is (record_of start h.0) r (sym (ap exact_record_in h.1) ∙ a.told) in
     let time : now (replay start h.0) ≡ newest_time r = subst (λ (s : Story). IsAt s (newest_time r)) h.1 a.time in
     let f = full_waits start h.0 h.2.events h.2.foreign in
     let falls = never_falls (replay start h.2.events) h.2.last in
@@ -159,10 +160,11 @@ polled_quiet clock before after r a h = quiet_of r a.newest after (brought Quiet
 
 -- one that fails
 pub polled_nothing : (before after : Story) (r : List Entry) → Awake before r → PollsNothing quiet_ms before after → NoneCame r after
-polled_nothing before Untold r a h = absurd (let g : (record_in before ≡ None) = rw h refl in let k = a.told in cc)
-polled_nothing before (Recorded all) r a h = record { polls = []; grew = record { told = sym (ap record_in h) ∙ a.told; listens = tt }; got = refl }
+polled_nothing before Untold r a h = absurd (let g : (exact_record_in before ≡ None) = rw h refl in let k = a.told in cc)
+polled_nothing before (Recorded Running all) r a h = absurd (let g : (exact_record_in before ≡ None) = rw h refl in let k = a.told in cc)
+polled_nothing before (Recorded Exact all) r a h = record { polls = []; grew = record { told = sym (ap exact_record_in h) ∙ a.told; listens = tt }; got = refl }
 polled_nothing before (Full start events) r a h =
-    let same : record_of start h.0 ≡ r = some_is (record_of start h.0) r (sym (ap record_in h.1) ∙ a.told) in
+    let same : record_of start h.0 ≡ r = some_is (record_of start h.0) r (sym (ap exact_record_in h.1) ∙ a.told) in
     let time : now (replay start h.0) ≡ newest_time r = subst (λ (s : Story). IsAt s (newest_time r)) h.1 a.time in
     let f = full_waits start h.0 events h.2.foreign in
     record {
@@ -181,14 +183,15 @@ pub record SentOne (octets : List ℕ) (r : List Entry) (after : Story) : Type 0
   pub put : request.what ≡ Put octets
   pub awake : Awake after (request ∷ r)
 
-pub sent_one : (octets : List ℕ) (before after : Story) (r : List Entry) → record_in before ≡ Some r → Sends octets before after → SentOne octets r after
-sent_one octets before Untold r told h = absurd (let g : (record_in before ≡ None) = rw h refl in cc)
-sent_one octets before (Recorded all) r told h =
-    let same : h.0 ≡ r = some_is h.0 r (sym (ap record_in h.1) ∙ told) in
+pub sent_one : (octets : List ℕ) (before after : Story) (r : List Entry) → exact_record_in before ≡ Some r → Sends octets before after → SentOne octets r after
+sent_one octets before Untold r told h = absurd (let g : (exact_record_in before ≡ None) = rw h refl in cc)
+sent_one octets before (Recorded Running all) r told h = absurd (let g : (exact_record_in before ≡ None) = rw h.1 refl in cc)
+sent_one octets before (Recorded Exact all) r told h =
+    let same : h.0 ≡ r = some_is h.0 r (sym (ap exact_record_in h.1) ∙ told) in
     let is : all ≡ entry (Put octets) (newest_time h.0) ∷ r = h.2 ∙ ap (λ (l : List Entry). entry (Put octets) (newest_time h.0) ∷ l) same in
     record { request = entry (Put octets) (newest_time h.0); put = refl; awake = record { told = ap Some is; time = ap newest_time is; newest = refl } }
 sent_one octets before (Full start events) r told h =
-    let same : record_of start h.0 ≡ r = some_is (record_of start h.0) r (sym (ap record_in h.1) ∙ told) in
+    let same : record_of start h.0 ≡ r = some_is (record_of start h.0) r (sym (ap exact_record_in h.1) ∙ told) in
     let at : ℕ = now (replay start (Send octets ∷ h.0)) in
     record {
       request = entry (Put octets) at;

@@ -3,14 +3,14 @@ use Rattle.std.proofs.Common.{◌≡◌, ◌≢◌, inl, inr, ℕ, ◌+◌, ◌�
 use Rattle.std.proofs.lemmas.List.{append-nil}
 use Rattle.line_model.specs.declared.outside.link.LinkFault.{LinkFault}
 use Rattle.line_model.specs.Record.{Entry, Put}
-use Rattle.line_model.specs.LinkStory.{Story, record_in, Sends, SendsOrNot}
+use Rattle.line_model.specs.LinkStory.{Story, Sends, SendsOrNot}
 use Rattle.discovery.specs.declared.about.About.{About}
 use Rattle.discovery.specs.declared.inquiry.Inquiry.{Inquiry}
 use Rattle.discovery.specs.Discovery.{Written}
 use Rattle.discovery.specs.Finding.{Finds, NoMore, Ended, request_of}
 use Rattle.discovery_ends.specs.declared.listening.Listened.{Listened}
 use Rattle.discovery_ends.specs.declared.listening.Listened.TheVariants as listened
-use Rattle.discovery_ends.specs.Searching.{quiet_ms, most_datagrams, datagrams_in, IsQuietFor, Round, Unsent, Once, Twice, Takes, Ends, Searched}
+use Rattle.discovery_ends.specs.Searching.{quiet_ms, most_datagrams, datagrams_in, IsQuietFor, Round, Unsent, Once, Twice, Takes, Ends, Searched, exact_record_in}
 use Rattle.discovery_ends.specs.Going.{Awake, HeardOut, IsOver, ListenedSo, WentRound, RoundSo, AgainSo}
 use Rattle.discovery_ends.proofs.Polling.{sent_one}
 
@@ -33,7 +33,7 @@ module _ (inquiry : Inquiry) (r : List Entry) (got : List (List ℕ)) (old : Lis
   listened_so (Ok listened.Over) x after found put h = (went x after found put h.0, h.1)
   listened_so (Err fault) x after found put h = inr (went x after found put h)
 
-  pub round_so : (result : Result Listened LinkFault) (before between after : Story) (found : List About) (most : ℕ) → record_in before ≡ Some r → Takes inquiry got old → length got + most ≡ most_datagrams
+  pub round_so : (result : Result Listened LinkFault) (before between after : Story) (found : List About) (most : ℕ) → exact_record_in before ≡ Some r → Takes inquiry got old → length got + most ≡ most_datagrams
       → Sends (Written (request_of inquiry)) before between
       → ((at : List Entry) (earlier : List (List ℕ)) → Awake between at → Takes inquiry earlier old → length earlier + most ≡ most_datagrams → ListenedSo result inquiry at earlier after found)
       → RoundSo result inquiry r got after old found
@@ -41,12 +41,12 @@ module _ (inquiry : Inquiry) (r : List Entry) (got : List (List ℕ)) (old : Lis
       let s = sent_one (Written (request_of inquiry)) before between r told sends in
       listened_so result s.request after found s.put (so (s.request ∷ r) got s.awake t n)
 
-  pub unsent_so : (fault : LinkFault) (before after : Story) → record_in before ≡ Some r → Takes inquiry got old → SendsOrNot (Written (request_of inquiry)) before after
-      → ((record_in after ≡ Some r) × (old ≡ old)) ⊎ WentRound inquiry r got after old
+  pub unsent_so : (fault : LinkFault) (before after : Story) → exact_record_in before ≡ Some r → Takes inquiry got old → SendsOrNot (Written (request_of inquiry)) before after
+      → ((exact_record_in after ≡ Some r) × (old ≡ old)) ⊎ WentRound inquiry r got after old
   unsent_so fault before after told t (inl sends) =
       let s = sent_one (Written (request_of inquiry)) before after r told sends in
       inr (went s.request after old s.put (record { polls = []; grew = record { told = s.awake.told; listens = tt }; takes = rw (append-nil got) t }))
-  unsent_so fault before after told t (inr same) = inl (ap record_in same ∙ told, refl)
+  unsent_so fault before after told t (inr same) = inl (ap exact_record_in same ∙ told, refl)
 
 -- ---- the search
 
@@ -62,7 +62,7 @@ nothing_taken inquiry = record {
     none (x ∷ front) last e = cc
 
 abbrev pub Found : Inquiry → List Entry → Story → List About → Result (Unit {0}) LinkFault → Type 0
-Found inquiry r after found result = (r' : List Entry) × (record_in after ≡ Some r') × Searched inquiry r r' found result
+Found inquiry r after found result = (r' : List Entry) × (exact_record_in after ≡ Some r') × Searched inquiry r r' found result
 
 not_ok : {P : Type 0} (fault : LinkFault) → ◌≡◌ {A = Result (Unit {0}) LinkFault} (Err fault) (Ok tt) → P
 not_ok fault e = cc
@@ -82,7 +82,7 @@ first_over inquiry r after old found h = (h.0.now, h.0.told, record { sent = 1; 
 
 -- a first round that ended in quiet
 module _ (inquiry : Inquiry) (r between : List Entry) (first : List (List ℕ)) (round : Round inquiry r between first) (quiet : IsQuietFor quiet_ms between) where
-  pub some_found : (before : Story) (found : List About) → record_in before ≡ Some between → Takes inquiry first found → found ≢ [] → Found inquiry r before found (Ok tt)
+  pub some_found : (before : Story) (found : List About) → exact_record_in before ≡ Some between → Takes inquiry first found → found ≢ [] → Found inquiry r before found (Ok tt)
   some_found before found told t some = (between, told, record { sent = 1; got = first; rounds = Once round; takes = t; ends = λ _. inr (inr (quiet, λ e. absurd (some e))) })
 
   pub second_failed : (fault : LinkFault) (after : Story) (old found : List About) → old ≡ [] → Takes inquiry first old → RoundSo (Err fault) inquiry between first after old found → Found inquiry r after found (Err fault)

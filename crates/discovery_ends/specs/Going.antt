@@ -1,7 +1,7 @@
 -- How a search goes on, by the link's record.
 use Rattle.std.specs.Prelude.{◌≡◌, ℕ, ◌+◌, ◌⊎◌, List, [], ◌∷◌, ◌++◌, length, Some, Result, Ok, Err}
 use Rattle.line_model.specs.declared.outside.link.LinkFault.{LinkFault}
-use Rattle.line_model.specs.LinkStory.{Story, Untold, Recorded, Full, record_in, newest_time}
+use Rattle.line_model.specs.LinkStory.{Story, Untold, Recorded, Full, newest_time}
 use Rattle.line_model.specs.Record.{Entry}
 use Rattle.line_model.specs.World.{now, replay}
 use Rattle.discovery.specs.declared.about.About.{About}
@@ -11,23 +11,23 @@ use Rattle.discovery_ends.specs.declared.listening.Heard.{Heard}
 use Rattle.discovery_ends.specs.declared.listening.Heard.TheVariants as heard
 use Rattle.discovery_ends.specs.declared.listening.Listened.{Listened}
 use Rattle.discovery_ends.specs.declared.listening.Listened.TheVariants as listened
-use Rattle.discovery_ends.specs.Searching.{quiet_ms, most_datagrams, datagrams_in, before_quiet, IsQuietFor, Listens, Round, Takes, Searched}
+use Rattle.discovery_ends.specs.Searching.{quiet_ms, most_datagrams, datagrams_in, before_quiet, IsQuietFor, Listens, Round, Takes, Searched, exact_record_in}
 
 -- ---- a link on which something was sent or got just now
 
 abbrev pub IsAt : Story → ℕ → Type 0
 IsAt Untold time = Unit {0}
-IsAt (Recorded r) time = newest_time r ≡ time
+IsAt (Recorded clock r) time = newest_time r ≡ time
 IsAt (Full start events) time = now (replay start events) ≡ time
 
 pub record Awake (story : Story) (r : List Entry) : Type 0 where
-  pub told : record_in story ≡ Some r
+  pub told : exact_record_in story ≡ Some r
   pub time : IsAt story (newest_time r)
   pub newest : before_quiet r ≡ r
 
 -- polls were added to its record
 pub record Grew (r polls : List Entry) (after : Story) : Type 0 where
-  pub told : record_in after ≡ Some (polls ++ r)
+  pub told : exact_record_in after ≡ Some (polls ++ r)
   pub listens : Listens r polls
 
 -- ---- a poll
@@ -87,7 +87,7 @@ pub record Goes (inquiry : Inquiry) (r : List Entry) (got : List (List ℕ)) (st
 
 pub record WentRound (inquiry : Inquiry) (r : List Entry) (got : List (List ℕ)) (after : Story) (found : List About) : Type 0 where
   pub now : List Entry
-  pub told : record_in after ≡ Some now
+  pub told : exact_record_in after ≡ Some now
   pub more : List (List ℕ)
   pub round : Round inquiry r now more
   pub takes : Takes inquiry (got ++ more) found
@@ -96,11 +96,11 @@ abbrev pub RoundSo : Result Listened LinkFault → Inquiry → List Entry → Li
 RoundSo (Ok (listened.Quiet left)) inquiry r got after old found =
     (w : WentRound inquiry r got after found) × IsQuietFor quiet_ms w.now × (length (got ++ w.more) + left ≡ most_datagrams)
 RoundSo (Ok listened.Over) inquiry r got after old found = (w : WentRound inquiry r got after found) × IsOver (got ++ w.more) found
-RoundSo (Err fault) inquiry r got after old found = ((record_in after ≡ Some r) × (found ≡ old)) ⊎ WentRound inquiry r got after found
+RoundSo (Err fault) inquiry r got after old found = ((exact_record_in after ≡ Some r) × (found ≡ old)) ⊎ WentRound inquiry r got after found
 
 -- ---- what is done behind a first round, which ended in quiet
 
 abbrev pub AgainSo : Result (Unit {0}) LinkFault → Inquiry → ℕ → Story → Story → List About → List About → Type 0
 AgainSo result inquiry left before after old found =
-    (r between : List Entry) (first : List (List ℕ)) → record_in before ≡ Some between → Round inquiry r between first → IsQuietFor quiet_ms between → Takes inquiry first old
-    → length first + left ≡ most_datagrams → (r' : List Entry) × (record_in after ≡ Some r') × Searched inquiry r r' found result
+    (r between : List Entry) (first : List (List ℕ)) → exact_record_in before ≡ Some between → Round inquiry r between first → IsQuietFor quiet_ms between → Takes inquiry first old
+    → length first + left ≡ most_datagrams → (r' : List Entry) × (exact_record_in after ≡ Some r') × Searched inquiry r r' found result

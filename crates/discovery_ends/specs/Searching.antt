@@ -1,10 +1,10 @@
 -- Looking for gateways over a link (ISO 22510, Core, search and self description), by the link's record: the request is sent once, or once more where
 -- nothing was found until it was quiet; datagrams are taken until it is quiet, 64 gateways are found or 65,536 datagrams are taken. It is quiet where for
--- 3,000 ms in turn nothing came. The newest entry first.
-use Rattle.std.specs.Prelude.{◌≡◌, ℕ, ◌+◌, ◌<◌, ◌≤◌, ◌⊎◌, Bool, true, false, List, [], ◌∷◌, ◌++◌, length, Some, Result, Ok, if◌then◌else◌}
+-- 3,000 ms in turn nothing came, by an exact clock. The newest entry first.
+use Rattle.std.specs.Prelude.{◌≡◌, ℕ, ◌+◌, ◌<◌, ◌≤◌, ◌⊎◌, Bool, true, false, List, [], ◌∷◌, ◌++◌, length, Option, Some, None, Result, Ok, if◌then◌else◌}
 use Rattle.line_model.specs.declared.outside.link.LinkFault.{LinkFault}
-use Rattle.line_model.specs.LinkStory.{Story, record_in, newest_time}
-use Rattle.line_model.specs.Record.{Item, Put, Renewed, Got, Quiet, Entry, is_poll}
+use Rattle.line_model.specs.LinkStory.{Story, Untold, Recorded, Full, Exact, Running, newest_time}
+use Rattle.line_model.specs.Record.{Item, Put, Renewed, Got, Quiet, Entry, is_poll, record_of}
 use Rattle.discovery.specs.declared.about.About.{About}
 use Rattle.discovery.specs.declared.inquiry.Inquiry.{Inquiry}
 use Rattle.discovery.specs.Discovery.{Written}
@@ -85,7 +85,14 @@ pub record Searched (inquiry : Inquiry) (before after : List Entry) (found : Lis
   pub takes : Takes inquiry got found
   pub ends : ended ≡ Ok tt → Ends sent after got found
 
--- by a link's stories before and after it, where its record is told
+-- the record of a link, where it is told with an exact clock: of how long it is quiet by another one nothing is said
+abbrev pub exact_record_in : Story → Option (List Entry)
+exact_record_in Untold = None
+exact_record_in (Recorded Exact r) = Some r
+exact_record_in (Recorded Running r) = None
+exact_record_in (Full start events) = Some (record_of start events)
+
+-- by its stories before and after it
 abbrev pub Searches : Inquiry → Story → Story → List About → Result (Unit {0}) LinkFault → Type 0
 Searches inquiry before after found ended =
-    (r : List Entry) → record_in before ≡ Some r → (r' : List Entry) × (record_in after ≡ Some r') × Searched inquiry r r' found ended
+    (r : List Entry) → exact_record_in before ≡ Some r → (r' : List Entry) × (exact_record_in after ≡ Some r') × Searched inquiry r r' found ended

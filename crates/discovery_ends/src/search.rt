@@ -3,11 +3,10 @@
 ghost use Rattle.std.specs.Prelude.{◌≡◌, ◌≤◌, ◌+◌, ◌↔◌, ℕ, IfOk, IsTrue, List, OnErr, Some, [], length};
 ghost use Rattle.discovery.specs.Discovery.{Written};
 ghost use Rattle.discovery.specs.Finding.{request_of};
-ghost use Rattle.line_model.specs.LinkStory.{record_in};
 ghost use Rattle.line_model.specs.Polled.{FailsWhere};
 ghost use Rattle.line_model.specs.Record.{Entry};
 ghost use Rattle.discovery_ends.specs.Going.{AgainSo, RoundSo};
-ghost use Rattle.discovery_ends.specs.Searching.{Searches, Takes, most_datagrams};
+ghost use Rattle.discovery_ends.specs.Searching.{Searches, Takes, exact_record_in, most_datagrams};
 
 use crate::listening::{Listened, listen};
 use discovery::{Datagram, FindFrame, Finder, Inquiry, encode};
@@ -80,7 +79,7 @@ fn again<L: Link>(link: &mut L, finder: &mut Finder, left: u32) -> Result<(), Li
 
 /// Sends the request, and listens.
 fn round<L: Link>(link: &mut L, finder: &mut Finder, most: u32) -> Result<Listened, LinkFault>
-    ensures so { (r : List Entry) (got : List (List ℕ)) → record_in (L.story link.old) ≡ Some r → Takes finder.old.inquiry got finder.old.found → length got + most ≡ most_datagrams → RoundSo result finder.old.inquiry r got (L.story link.new) finder.old.found finder.new.found }
+    ensures so { (r : List Entry) (got : List (List ℕ)) → exact_record_in (L.story link.old) ≡ Some r → Takes finder.old.inquiry got finder.old.found → length got + most ≡ most_datagrams → RoundSo result finder.old.inquiry r got (L.story link.new) finder.old.found finder.new.found }
     ensures inquiry { finder.new.inquiry ≡ finder.old.inquiry }
     ensures cause { FailsWhere result (L.faults link.old) (L.faults link.new) }
     ensures count { L.faults link.old ≤ L.faults link.new }

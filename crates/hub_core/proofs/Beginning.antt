@@ -3,7 +3,7 @@ use Rattle.std.proofs.Common.{◌≡◌, ℕ, false, List, [], map, Option, Some
 use Rattle.line_model.specs.declared.fault.HubFault.{HubFault}
 use Rattle.line_model.specs.declared.log.LogEntry.{LogEntry}
 use Rattle.line_model.specs.Record.{Placed, entries, placed, counted}
-use Rattle.line_model.specs.LinkStory.{Story, Untold, Recorded, Full, places_in, IsNewLink}
+use Rattle.line_model.specs.LinkStory.{Story, Untold, Recorded, Full, clock_of, places_in, IsNewLink}
 use Rattle.line_model.specs.Log.{Job, IsLog}
 use Rattle.line_model.specs.Told.{ToldTruly}
 use Rattle.line_model.specs.Ends.{EndsAtRest}
@@ -21,7 +21,7 @@ use Rattle.hub_core.proofs.Counting.{some_is}
 
 no_places : (s : Story) (places : List Placed) → IsNewLink s → places_in s ≡ Some places → places ≡ []
 no_places Untold places new e = absurd (let z : None ≡ Some places = e in cc)
-no_places (Recorded r) places new e = sym (some_is (counted r) places e) ∙ ap counted new
+no_places (Recorded clock r) places new e = sym (some_is (counted r) places e) ∙ ap counted new
 no_places (Full start events) places new e = sym (some_is (placed start events) places e) ∙ ap (placed start) new.0
 
 -- nothing is told
@@ -39,7 +39,7 @@ begins p s w f hub_jobs none new books empty are unbegun fits = record {
   jobs_are = λ jobs of. (fits jobs 0 0 (back jobs of)).devices;
   closes = λ begun. absurd (begun unbegun);
   stays = λ stands isnt places e. subst (λ (l : List Placed). StaysOpen (entries l)) (sym (no_places s places new e)) tt;
-  hastens = λ jobs of places e. subst (EachSo (Hastens jobs w.telegrams.turns) w.journal.entries) (sym (no_places s places new e)) tt;
+  hastens = λ jobs of places e. subst (EachSo (Hastens (clock_of s) jobs w.telegrams.turns) w.journal.entries) (sym (no_places s places new e)) tt;
   told = λ jobs of places e. subst (λ (l : List Placed). KeepsTold jobs w false f (place_of s) l) (sym (no_places s places new e)) (record {
     books = books (place_of s);
     tells = nothing_told jobs w (place_of s) w.journal.entries empty;

@@ -103,7 +103,7 @@ module _ (jobs : List Job) (w : Work) (now at : ℕ) (places : List Placed) (boo
 -- where the link tells something
 place_is : (n : ℕ) (s : Story) (places : List Placed) → IsPlace n s → places_in s ≡ Some places → n ≡ place_of s
 place_is n Untold places is e = absurd (let z : None ≡ Some places = e in cc)
-place_is n (Recorded r) places is e = is
+place_is n (Recorded clock r) places is e = is
 place_is n (Full start events) places is e = is
 
 module _ (story : Story) (place : ℕ) (is : IsPlace place story) (w : Work) (met : Bool) (fault : Option HubFault) (none : fault ≡ None) (keeps : Keeps place story w met fault) (worker : ℕ) (held : Holds) (gone : Gone) (from : 1 ≤ worker)

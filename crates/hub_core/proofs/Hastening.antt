@@ -8,7 +8,7 @@ use Rattle.line_model.specs.ClientView.{channel}
 use Rattle.line_model.specs.Closing as line
 use Rattle.line_model.specs.Haste.{HasSent}
 use Rattle.line_model.specs.Leaves.{StaysOpen}
-use Rattle.line_model.specs.LinkStory.{Story, places_in, newest_time}
+use Rattle.line_model.specs.LinkStory.{Story, clock_of, places_in, newest_time}
 use Rattle.line_model.specs.Log.{Job}
 use Rattle.line_model.specs.Moments.{moments, time}
 use Rattle.line_model.specs.Record.{Placed, entries}
@@ -54,30 +54,30 @@ both P Q s t g h old e =
 -- ---- by each entry that was added
 
 hastens_by : (s t : Story) (w : Work) (P : List Placed → List Placed → Type 0) → Growing P s t
-    → ((jobs : List Job) → AreJobsWith (tasks w) jobs → AreJobsOf w.reservation.devices jobs → (old added : List Placed) → places_in s ≡ Some old → AreAbove (place_of s) added → P old added → Each (Hastens jobs w.telegrams.turns w.journal.entries) added old)
+    → ((jobs : List Job) → AreJobsWith (tasks w) jobs → AreJobsOf w.reservation.devices jobs → (old added : List Placed) → places_in s ≡ Some old → AreAbove (place_of s) added → P old added → Each (Hastens (clock_of s) jobs w.telegrams.turns w.journal.entries) added old)
     → HastensOn s t w
 hastens_by s t w P grows each jobs old new with_tasks are es et is h =
     let g : Grows P (place_of s) (place_of t) old t = grows old es in
     let same : g.new ≡ new = some_is g.new new (sym g.told ∙ et) in
     let all : new ≡ g.added ++ old = sym same ∙ g.grown.grow in
-    subst (EachSo (Hastens jobs w.telegrams.turns) w.journal.entries) (sym all)
-    (each_added (Hastens jobs w.telegrams.turns) jobs w.telegrams.turns (place_of s) w.journal.entries g.added old is g.grown.above (each jobs with_tasks are old g.added es g.grown.above g.is) h)
+    subst (EachSo (Hastens (clock_of s) jobs w.telegrams.turns) w.journal.entries) (sym all)
+    (each_added (Hastens (clock_of s) jobs w.telegrams.turns) jobs w.telegrams.turns (place_of s) w.journal.entries g.added old is g.grown.above (each jobs with_tasks are old g.added es g.grown.above g.is) h)
 
 pub hastens_alone : (s t : Story) (w : Work) → Growing (tunnel.Each TakesNoTime) s t → Growing (tunnel.Each LeavesAlone) s t → HastensOn s t w
 hastens_alone s t w timeless alone =
     hastens_by s t w (Both (tunnel.Each TakesNoTime) (tunnel.Each LeavesAlone)) (both (tunnel.Each TakesNoTime) (tunnel.Each LeavesAlone) s t timeless alone)
-    (λ jobs with_tasks are old added es above h. alone_hastens jobs w.telegrams.turns w.journal.entries added old h.0 h.1)
+    (λ jobs with_tasks are old added es above h. alone_hastens (clock_of s) jobs w.telegrams.turns w.journal.entries added old h.0 h.1)
 
 pub hastens_seek : (s t : Story) (w : Work) → Growing (tunnel.Each TakesNoTime) s t → Growing (tunnel.Each EndsNone) s t → WhereTold (λ places. StaysOpen (entries places)) s → HastensOn s t w
 hastens_seek s t w timeless none unasked =
     hastens_by s t w (Both (tunnel.Each TakesNoTime) (tunnel.Each EndsNone)) (both (tunnel.Each TakesNoTime) (tunnel.Each EndsNone) s t timeless none)
-    (λ jobs with_tasks are old added es above h. seek_hastens jobs w.telegrams.turns w.journal.entries added old h.0 h.1 (unasked old es))
+    (λ jobs with_tasks are old added es above h. seek_hastens (clock_of s) jobs w.telegrams.turns w.journal.entries added old h.0 h.1 (unasked old es))
 
 pub hastens_leave : (s t : Story) (w : Work) → Growing (tunnel.Each TakesNoTime) s t → Growing SendsOnce s t → ((jobs : List Job) → AreJobsOf w.reservation.devices jobs → IsAllOver jobs w.telegrams.turns w.journal.entries)
     → WhereTold (λ places. StaysOpen (entries places)) s → HastensOn s t w
 hastens_leave s t w timeless once over unasked =
     hastens_by s t w (Both (tunnel.Each TakesNoTime) SendsOnce) (both (tunnel.Each TakesNoTime) SendsOnce s t timeless once)
-    (λ jobs with_tasks are old added es above h. leave_hastens jobs w.telegrams.turns w.journal.entries added old h.0 h.1 (all_finished jobs w.telegrams.turns w.journal.entries (over jobs are)) (unasked old es))
+    (λ jobs with_tasks are old added es above h. leave_hastens (clock_of s) jobs w.telegrams.turns w.journal.entries added old h.0 h.1 (all_finished jobs w.telegrams.turns w.journal.entries (over jobs are)) (unasked old es))
 
 -- ---- a poll
 
@@ -91,23 +91,23 @@ sent_before p s w met f none keeps law now newest_is has_place placed longest se
     let here : Fits jobs w now (place_of s) (moments old) = subst (λ n. Fits jobs w n (place_of s) (moments old)) (sym (newest_is old e ∙ newest old)) fits in
     sent jobs old at (books_later (place_of s) at w (omega (arith, lt)) k.books) (law jobs w now (place_of s) at (moments old) k.books here (omega (arith, lt))) (placed old e) (newest_is old e) lasts
 
-module _ (s t : Story) (w : Work) (longest : ℕ) (within : Growing (PollsWithin longest) s t) (beats : Growing (tunnel.Each BeatsInTime) s t) (alone : Growing (tunnel.Each LeavesAlone) s t)
+module _ (s t : Story) (w : Work) (longest : ℕ) (within : Growing (PollsWithin (clock_of s) longest) s t) (beats : Growing (tunnel.Each BeatsInTime) s t) (alone : Growing (tunnel.Each LeavesAlone) s t)
     (sent : (jobs : List Job) → AreJobsWith (tasks w) jobs → (old : List Placed) → places_in s ≡ Some old → (at : ℕ) → place_of s < at → longest ≢ 0 → HasSent jobs w.journal.entries old at) where
   abbrev Polled : List Placed → List Placed → Type 0
-  Polled = Both (PollsWithin longest) (Both (tunnel.Each BeatsInTime) (tunnel.Each LeavesAlone))
+  Polled = Both (PollsWithin (clock_of s) longest) (Both (tunnel.Each BeatsInTime) (tunnel.Each LeavesAlone))
 
   polled : Growing Polled s t
-  polled = both (PollsWithin longest) (Both (tunnel.Each BeatsInTime) (tunnel.Each LeavesAlone)) s t within (both (tunnel.Each BeatsInTime) (tunnel.Each LeavesAlone) s t beats alone)
+  polled = both (PollsWithin (clock_of s) longest) (Both (tunnel.Each BeatsInTime) (tunnel.Each LeavesAlone)) s t within (both (tunnel.Each BeatsInTime) (tunnel.Each LeavesAlone) s t beats alone)
 
   hastens_prompt : Growing AllPrompt s t → HastensOn s t w
   hastens_prompt prompt =
       hastens_by s t w (Both AllPrompt Polled) (both AllPrompt Polled s t prompt polled)
-      (λ jobs with_tasks are old added es above h. poll_hastens jobs w.telegrams.turns w.journal.entries (place_of s) longest old (sent jobs with_tasks old es) added (each_prompt jobs w.telegrams.turns w.journal.entries added old h.0) h.1.0 above h.1.1.0 h.1.1.1)
+      (λ jobs with_tasks are old added es above h. poll_hastens (clock_of s) jobs w.telegrams.turns w.journal.entries (place_of s) longest old (sent jobs with_tasks old es) added (each_prompt (clock_of s) jobs w.telegrams.turns w.journal.entries added old h.0) h.1.0 above h.1.1.0 h.1.1.1)
 
   hastens_over : ((jobs : List Job) → AreJobsOf w.reservation.devices jobs → IsAllOver jobs w.telegrams.turns w.journal.entries) → HastensOn s t w
   hastens_over over =
       hastens_by s t w Polled polled
-      (λ jobs with_tasks are old added es above h. poll_hastens jobs w.telegrams.turns w.journal.entries (place_of s) longest old (sent jobs with_tasks old es) added (each_over jobs w.telegrams.turns w.journal.entries added old (over jobs are)) h.0 above h.1.0 h.1.1)
+      (λ jobs with_tasks are old added es above h. poll_hastens (clock_of s) jobs w.telegrams.turns w.journal.entries (place_of s) longest old (sent jobs with_tasks old es) added (each_over (clock_of s) jobs w.telegrams.turns w.journal.entries added old (over jobs are)) h.0 above h.1.0 h.1.1)
 
   -- where the closing hasn't begun it is prompt
   pub hastens_poll : (w.closing ≡ None → Growing AllPrompt s t) → ((w.closing ≡ None → ⊥) → (jobs : List Job) → AreJobsOf w.reservation.devices jobs → IsAllOver jobs w.telegrams.turns w.journal.entries) → HastensOn s t w

@@ -7,20 +7,20 @@ use Rattle.std.proofs.lemmas.Bool.Decides.{nat_tests}
 use Rattle.line_model.specs.declared.group.GroupTurn.{GroupTurn}
 use Rattle.line_model.specs.declared.log.LogEntry.{LogEntry}
 use Rattle.line_model.specs.Record.{Item, Put, Renewed, Got, Quiet, Entry, Placed, entries, is_poll, is_renewal}
-use Rattle.line_model.specs.LinkStory.{newest_time, AreWaits}
+use Rattle.line_model.specs.LinkStory.{Clock, Exact, Running, newest_time, AreWaits}
 use Rattle.line_model.specs.ClientView.{channel}
 use Rattle.line_model.specs.Closing.{asks_to_end, is_open}
-use Rattle.line_model.specs.Haste.{is_wait, takes_time, has_just_waited, HasSent}
+use Rattle.line_model.specs.Haste.{is_beat_overdue, is_wait, takes_time, has_just_waited, HasSent}
 use Rattle.line_model.specs.Leaves.{StaysOpen, IsFinished}
 use Rattle.line_model.specs.Log.{Job, JobUnfinished, TurnUnfinished, Over, state_of, JobState, Untaken, Held}
-use Rattle.line_model.specs.Renews.{PollsPromptly}
+use Rattle.line_model.specs.Renews.{PollsPromptly, to_poll_before}
 use Rattle.tunnel_link.specs.Adds.{AllPrompt}
 use Rattle.tunnel_link.specs.Alone as tunnel
 use Rattle.tunnel_link.specs.Alone.{EndsNone, LeavesAlone, SendsOnce, Nothing, Once}
 use Rattle.tunnel_link.specs.Paces.{TakesNoTime, BeatsInTime, PollsOnce, NoPoll, Polls, PollsAndSends, PollsWithin}
 use Rattle.tunnel_link.proofs.Polls.{newest_last}
 use Rattle.hub_work.proofs.Growing.{AreAbove}
-use Rattle.hub_core.specs.Discipline.{IsPrompt, Hastens}
+use Rattle.hub_core.specs.Discipline.{IsPrompt, Hastens, LosesNone}
 use Rattle.hub_core.specs.Keeps.{IsAllOver}
 use Rattle.hub_core.proofs.Requests.{Each}
 
@@ -72,18 +72,30 @@ is_later a b lt = grind (arith, nat_tests)
 no_wait : (r : List Entry) (x : Entry) → is_poll x.what ≡ false → takes_time r x ≡ true → ⊥
 no_wait r x none takes = let z : true ≡ false = sym (waits_poll x.what (and_parts (is_wait x.what) (nat_lt (newest_time r) x.now) takes).0) ∙ none in cc
 
-module _ (jobs : List Job) (turns : List GroupTurn) (log : List LogEntry) where
+module _ (clock : Clock) (jobs : List Job) (turns : List GroupTurn) (log : List LogEntry) where
+  abbrev Busy : List Placed → Placed → Type 0
+  Busy older p = takes_time (entries older) p.what ≡ true → has_just_waited (entries older) ≡ false → HasSent jobs log older p.at
+
+  -- ---- one entry, by the clock
+
+  by_clock : (c : Clock) (older : List Placed) (p : Placed) → (c ≡ Exact → Busy older p) → (c ≡ Exact → p.what.now ≤ newest_time (entries older) + 100)
+      → (is_poll p.what.what ≡ true → is_beat_overdue (channel (entries older)) (to_poll_before (entries older)) ≡ false)
+      → (asks_to_end p.what ≡ true → is_open (channel (entries older)) ≡ true → IsFinished jobs turns log × StaysOpen (entries older))
+      → (is_renewal p.what.what ≡ true → StaysOpen (entries older)) → LosesNone c jobs turns log older p
+  by_clock Exact older p busy short beats ends seeks = record {
+    busy = busy refl;
+    ends = λ asks up. (ends asks up).0;
+    pace = record { short = short refl; beats = beats; ends_once = λ asks up. (ends asks up).1; seeks = seeks };
+  }
+  by_clock Running older p busy short beats ends seeks = record { beats = beats; ends = ends; seeks = seeks }
+
   -- ---- one entry that is no poll
 
   still : (older : List Placed) (p : Placed) → TakesNoTime (entries older) p.what → (asks_to_end p.what ≡ true → is_open (channel (entries older)) ≡ true → IsFinished jobs turns log × StaysOpen (entries older))
-      → (is_renewal p.what.what ≡ true → StaysOpen (entries older)) → Hastens jobs turns log older p
+      → (is_renewal p.what.what ≡ true → StaysOpen (entries older)) → Hastens clock jobs turns log older p
   still older p t ends seeks = record {
     prompt = λ left poll. polls_not poll;
-    loses_none = record {
-      busy = λ takes first. absurd (no_wait (entries older) p.what t.polls_not takes);
-      ends = λ asks up. (ends asks up).0;
-      pace = record { short = (let s = t.still in omega (arith, s)); beats = λ poll. polls_not poll; ends_once = λ asks up. (ends asks up).1; seeks = seeks };
-    };
+    loses_none = by_clock clock older p (λ exact takes first. absurd (no_wait (entries older) p.what t.polls_not takes)) (λ exact. (let s = t.still in omega (arith, s))) (λ poll. polls_not poll) ends seeks;
   }
     where
       polls_not : {X : Type 0} → is_poll p.what.what ≡ true → X
@@ -94,25 +106,22 @@ module _ (jobs : List Job) (turns : List GroupTurn) (log : List LogEntry) where
 
   -- ---- of a call
 
-  pub alone_hastens : (added old : List Placed) → tunnel.Each TakesNoTime old added → tunnel.Each LeavesAlone old added → Each (Hastens jobs turns log) added old
+  pub alone_hastens : (added old : List Placed) → tunnel.Each TakesNoTime old added → tunnel.Each LeavesAlone old added → Each (Hastens clock jobs turns log) added old
   alone_hastens [] old t alone = tt
   alone_hastens (p ∷ added) old t alone =
       (still (added ++ old) p t.0 (shut (entries (added ++ old)) p.what alone.0.ends_none) (renews_not p.what alone.0.seeks_none.renews_not), alone_hastens added old t.1 alone.1)
 
-  pub seek_hastens : (added old : List Placed) → tunnel.Each TakesNoTime old added → tunnel.Each EndsNone old added → StaysOpen (entries old) → Each (Hastens jobs turns log) added old
+  pub seek_hastens : (added old : List Placed) → tunnel.Each TakesNoTime old added → tunnel.Each EndsNone old added → StaysOpen (entries old) → Each (Hastens clock jobs turns log) added old
   seek_hastens [] old t none unasked = tt
   seek_hastens (p ∷ added) old t none unasked =
       (still (added ++ old) p t.0 (shut (entries (added ++ old)) p.what none.0) (λ renews. stays_open added old none.1 unasked), seek_hastens added old t.1 none.1 unasked)
 
-  pub leave_hastens : (added old : List Placed) → tunnel.Each TakesNoTime old added → SendsOnce old added → IsFinished jobs turns log → StaysOpen (entries old) → Each (Hastens jobs turns log) added old
+  pub leave_hastens : (added old : List Placed) → tunnel.Each TakesNoTime old added → SendsOnce old added → IsFinished jobs turns log → StaysOpen (entries old) → Each (Hastens clock jobs turns log) added old
   leave_hastens [] old t Nothing finished unasked = tt
   leave_hastens (p ∷ (q ∷ added)) old t h finished unasked = elim h [ ]
   leave_hastens (p ∷ []) old t (Once q at seeks) finished unasked = (still old p t.0 (λ asks up. (finished, unasked)) (renews_not p.what seeks.renews_not), tt)
 
   -- ---- of a poll
-
-  abbrev Busy : List Placed → Placed → Type 0
-  Busy older p = takes_time (entries older) p.what ≡ true → has_just_waited (entries older) ≡ false → HasSent jobs log older p.at
 
   module _ (n longest : ℕ) (old : List Placed) (sent : (at : ℕ) → n < at → longest ≢ 0 → HasSent jobs log old at) where
     abbrev AreWithin : List Placed → Type 0
@@ -146,28 +155,24 @@ module _ (jobs : List Job) (turns : List GroupTurn) (log : List LogEntry) where
     once_busy rest ws (PollsAndSends s p none) h le above =
         ((λ takes first. absurd (no_wait (entries ((p ∷ ws) ++ old)) s.what none takes)), (last_busy p ws h le.1.0 above.1.0, waits_busy ws h le.1.1 above.1.1))
 
-    busy : (added : List Placed) → PollsWithin longest old added → AreAbove n added → Each Busy added old
-    busy added within above =
+    busy : clock ≡ Exact → (added : List Placed) → PollsWithin clock longest old added → AreAbove n added → Each Busy added old
+    busy exact added within above =
         subst (λ (l : List Placed). Each Busy l old) (sym within.parts)
-        (once_busy within.rest within.waits within.once within.times (subst AreWithin within.parts within.in_time) (subst (AreAbove n) within.parts above))
+        (once_busy within.rest within.waits within.once within.times (subst AreWithin within.parts (within.in_time exact)) (subst (AreAbove n) within.parts above))
 
-    all_hasten : (added : List Placed) → Each (IsPrompt jobs turns log) added old → Each Busy added old → tunnel.Each (λ r x. x.now ≤ newest_time r + 100) old added → tunnel.Each BeatsInTime old added → tunnel.Each LeavesAlone old added
-        → Each (Hastens jobs turns log) added old
+    all_hasten : (added : List Placed) → Each (IsPrompt jobs turns log) added old → (clock ≡ Exact → Each Busy added old) → (clock ≡ Exact → tunnel.Each (λ r x. x.now ≤ newest_time r + 100) old added) → tunnel.Each BeatsInTime old added → tunnel.Each LeavesAlone old added
+        → Each (Hastens clock jobs turns log) added old
     all_hasten [] prompt sends short beats alone = tt
     all_hasten (p ∷ added) prompt sends short beats alone = (
       record {
         prompt = prompt.0;
-        loses_none = record {
-          busy = sends.0;
-          ends = shut (entries (added ++ old)) p.what alone.0.ends_none;
-          pace = record { short = short.0; beats = beats.0; ends_once = shut (entries (added ++ old)) p.what alone.0.ends_none; seeks = renews_not p.what alone.0.seeks_none.renews_not };
-        };
+        loses_none = by_clock clock (added ++ old) p (λ exact. (sends exact).0) (λ exact. (short exact).0) beats.0 (shut (entries (added ++ old)) p.what alone.0.ends_none) (renews_not p.what alone.0.seeks_none.renews_not);
       },
-      all_hasten added prompt.1 sends.1 short.1 beats.1 alone.1,
+      all_hasten added prompt.1 (λ exact. (sends exact).1) (λ exact. (short exact).1) beats.1 alone.1,
     )
 
-    pub poll_hastens : (added : List Placed) → Each (IsPrompt jobs turns log) added old → PollsWithin longest old added → AreAbove n added → tunnel.Each BeatsInTime old added → tunnel.Each LeavesAlone old added → Each (Hastens jobs turns log) added old
-    poll_hastens added prompt within above beats alone = all_hasten added prompt (busy added within above) within.short beats alone
+    pub poll_hastens : (added : List Placed) → Each (IsPrompt jobs turns log) added old → PollsWithin clock longest old added → AreAbove n added → tunnel.Each BeatsInTime old added → tunnel.Each LeavesAlone old added → Each (Hastens clock jobs turns log) added old
+    poll_hastens added prompt within above beats alone = all_hasten added prompt (λ exact. busy exact added within above) within.short beats alone
 
   -- ---- promptly: each poll was, or nothing is left to be done
 

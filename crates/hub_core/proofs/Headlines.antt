@@ -6,7 +6,7 @@ use Rattle.line_model.specs.declared.fault.HubFault.TheVariants.{NoMemory, LinkF
 use Rattle.line_model.specs.declared.group.GroupTurn.{GroupTurn}
 use Rattle.line_model.specs.declared.log.LogEntry.{LogEntry}
 use Rattle.line_model.specs.Record.{Entry, Placed, entries, placed, counted}
-use Rattle.line_model.specs.LinkStory.{Story, Untold, Recorded, Full, record_in}
+use Rattle.line_model.specs.LinkStory.{Story, Untold, Recorded, Full, Exact, clock_of, record_in}
 use Rattle.line_model.specs.Log.{Job, OneDownloaderPerDevice}
 use Rattle.line_model.specs.Dropped.{dropped}
 use Rattle.line_model.specs.Faults.{tries, FaultRight}
@@ -25,17 +25,17 @@ use Rattle.hub_core.proofs.Disciplines.{disciplined}
 
 -- ---- the discipline
 
-pub headline : (jobs : List Job) (turns : List GroupTurn) (log : List LogEntry) (story : Story) (k : Known) → OneDownloaderPerDevice jobs log → TellsIn jobs turns log story → KeepsRecord k story → tunnel.Keeps story → WhereTold (EachSo (Hastens jobs turns) log) story → Keeps jobs turns story log
+pub headline : (jobs : List Job) (turns : List GroupTurn) (log : List LogEntry) (story : Story) (k : Known) → OneDownloaderPerDevice jobs log → TellsIn jobs turns log story → KeepsRecord k story → tunnel.Keeps story → WhereTold (EachSo (Hastens (clock_of story) jobs turns) log) story → Keeps jobs turns story log
 headline jobs turns log Untold k alone tells kept legal hastens = tt
-headline jobs turns log (Recorded r) k alone tells kept legal hastens =
+headline jobs turns log (Recorded clock r) k alone tells kept legal hastens =
     let right = (kept (counted r) refl).right in
-    disciplined jobs turns (length r) (counted r) log (entries (counted r)) refl (tells (counted r) refl) (hastens (counted r) refl) alone right.renews right.sends right.acknowledges
+    disciplined clock jobs turns (length r) (counted r) log (entries (counted r)) refl (tells (counted r) refl) (hastens (counted r) refl) alone right.renews right.sends right.acknowledges
 headline jobs turns log (Full start events) k alone tells kept legal hastens =
     let right = (kept (placed start events) refl).right in
     record {
       fresh = legal.fresh;
       legal = legal.legal;
-      disciplined = disciplined jobs turns (length events) (placed start events) log (entries (placed start events)) refl (tells (placed start events) refl) (hastens (placed start events) refl) alone right.renews right.sends right.acknowledges;
+      disciplined = disciplined Exact jobs turns (length events) (placed start events) log (entries (placed start events)) refl (tells (placed start events) refl) (hastens (placed start events) refl) alone right.renews right.sends right.acknowledges;
     }
 
 -- ---- and what the line's law asks of it, without promptness
@@ -56,7 +56,7 @@ safe_of jobs turns log k n places alone told kept = record {
 
 pub safe_over : (jobs : List Job) (turns : List GroupTurn) (log : List LogEntry) (story : Story) (k : Known) → OneDownloaderPerDevice jobs log → TellsIn jobs turns log story → KeepsRecord k story → tunnel.Keeps story → IsSafeOver jobs turns story log
 safe_over jobs turns log Untold k alone tells kept legal = tt
-safe_over jobs turns log (Recorded r) k alone tells kept legal = safe_of jobs turns log k (length r) (counted r) alone (tells (counted r) refl) (kept (counted r) refl)
+safe_over jobs turns log (Recorded clock r) k alone tells kept legal = safe_of jobs turns log k (length r) (counted r) alone (tells (counted r) refl) (kept (counted r) refl)
 safe_over jobs turns log (Full start events) k alone tells kept legal = record {
   fresh = legal.fresh;
   legal = legal.legal;
@@ -65,7 +65,7 @@ safe_over jobs turns log (Full start events) k alone tells kept legal = record {
 
 pub right_over : (jobs : List Job) (turns : List GroupTurn) (log : List LogEntry) (story : Story) → EverySafeInterleaving → AllByRecursion IsGoodJob jobs → IsSafeOver jobs turns story log → IsRightOver jobs story log
 right_over jobs turns log Untold law good safe = tt
-right_over jobs turns log (Recorded r) law good safe = tt
+right_over jobs turns log (Recorded clock r) law good safe = tt
 right_over jobs turns log (Full start events) law good safe = law jobs turns start events log good safe
 
 -- ---- the fault
@@ -84,7 +84,7 @@ module _ (jobs : List Job) (w : Work) (met : Bool) (k : Known) (n : ℕ) (places
 
 pub fault_in : (jobs : List Job) (w : Work) (met : Bool) (k : Known) (story : Story) → WhereTold (KeepsTold jobs w met k.fault (place_of story)) story → KeepsRecord k story → FaultRightIn jobs w.journal.entries k.fault (record_in story)
 fault_in jobs w met k Untold told kept = tt
-fault_in jobs w met k (Recorded r) told kept =
+fault_in jobs w met k (Recorded clock r) told kept =
     subst (λ (x : List Entry). FaultRight jobs w.journal.entries x k.fault) (entries_counted r) (fault_right jobs w met k (length r) (counted r) (told (counted r) refl) (kept (counted r) refl))
 fault_in jobs w met k (Full start events) told kept =
     subst (λ (x : List Entry). FaultRight jobs w.journal.entries x k.fault) (entries_placed start events) (fault_right jobs w met k (length events) (placed start events) (told (placed start events) refl) (kept (placed start events) refl))
@@ -93,5 +93,5 @@ fault_in jobs w met k (Full start events) told kept =
 
 pub dropped_in : (k : Known) (story : Story) → KeepsRecord k story → DropsIn k.dropped (record_in story)
 dropped_in k Untold kept = tt
-dropped_in k (Recorded r) kept = subst (λ (x : List Entry). k.dropped ≡ at_most_64_bits (dropped x)) (entries_counted r) (kept (counted r) refl).right.drops
+dropped_in k (Recorded clock r) kept = subst (λ (x : List Entry). k.dropped ≡ at_most_64_bits (dropped x)) (entries_counted r) (kept (counted r) refl).right.drops
 dropped_in k (Full start events) kept = subst (λ (x : List Entry). k.dropped ≡ at_most_64_bits (dropped x)) (entries_placed start events) (kept (placed start events) refl).right.drops

@@ -5,8 +5,8 @@ use Rattle.std.specs.Prelude.{◌||◌, ◌&&◌, not, nat_le}
 use Rattle.knx_model.specs.Connection.{has_passed}
 use Rattle.line_model.specs.declared.group.GroupTurn.{GroupTurn}
 use Rattle.line_model.specs.declared.log.LogEntry.{LogEntry}
-use Rattle.line_model.specs.Record.{Item, Put, Renewed, Got, Quiet, Entry, Placed, entries, is_got, is_poll}
-use Rattle.line_model.specs.LinkStory.{Story, places_in, newest_time, last_wait, AreWaits, EndsAt}
+use Rattle.line_model.specs.Record.{Entry, Placed, entries, is_got, is_poll}
+use Rattle.line_model.specs.LinkStory.{Story, Clock, Exact, Running, clock_of, places_in, newest_time, last_wait, AreWaits, EndsBy}
 use Rattle.line_model.specs.declared.fault.HubFault.{HubFault}
 use Rattle.line_model.specs.Asks.{HasPlace}
 use Rattle.line_model.specs.ChannelLost.{answer_wait}
@@ -18,7 +18,7 @@ use Rattle.tunnel_link.specs.Adds.{place_of, Growing}
 use Rattle.tunnel_link.specs.Goes as tunnel
 use Rattle.tunnel_link.specs.Lasts.{LastsRightly, PollsFor}
 use Rattle.tunnel_link.specs.Rights.{WhereTold}
-use Rattle.tunnel_link.proofs.Growth.{entries_append}
+use Rattle.tunnel_link.proofs.Growth.{entries_append, exact_in_time, waits_in_time}
 use Rattle.tunnel_link.proofs.Times.{times_told}
 use Rattle.hub_work.specs.declared.closing.Closing.{Closing}
 use Rattle.hub_work.specs.declared.work.Work.{Work}
@@ -112,12 +112,6 @@ quiet_stays : (s : line.Closing) (since : ℕ) (ws : List Entry) → AreWaits si
 quiet_stays s since [] h = refl
 quiet_stays s since (x ∷ ws) h = quiet_after x (resumed s ws) h.0 ∙ quiet_stays s since ws h.2
 
-ends_by : (what : Item) (wait since until : ℕ) → EndsAt what wait since until → until ≤ since + wait
-ends_by (Put octets) wait since until h = h
-ends_by Renewed wait since until h = h
-ends_by (Got octets) wait since until h = h
-ends_by Quiet wait since until h = omega (arith, h)
-
 module _ (s : line.Closing) (wait : ℕ) (old : List Entry) (waits : line.has_waited s (newest_time old) ≡ false) (ends : newest_time old + wait ≤ end_of s) where
   -- before each entry that takes time it hasn't waited enough
   earlier : (ws : List Entry) (x : Entry) → AreWaits (newest_time old) ws → x.now ≤ newest_time old + wait → newest_time (ws ++ old) < x.now → line.has_waited (resumed s ws) (newest_time (ws ++ old)) ≡ false
@@ -135,20 +129,24 @@ module _ (s : line.Closing) (wait : ℕ) (old : List Entry) (waits : line.has_wa
     waits_right ws are.2 (let later = are.1 in omega (arith, later, until)),
   )
 
-  last_right : (ws : List Entry) (x : Entry) → AreWaits (newest_time old) ws → x.now ≤ newest_time old + wait → line.WaitsSo (ws ++ old) (resumed s ws) x
-  last_right ws x are until = record {
-    polls = λ is late. earlier ws x are until late;
+  -- with a clock that runs nothing was waited for before the last one
+  before_last : (clock : Clock) (ws : List Entry) (x : Entry) → AreWaits (newest_time old) ws → EndsBy clock x.what wait (newest_time old) x.now ws → newest_time (ws ++ old) < x.now → line.has_waited (resumed s ws) (newest_time (ws ++ old)) ≡ false
+  before_last Exact ws x are by late = earlier ws x are (exact_in_time Exact x.what wait (newest_time old) x.now ws by refl) late
+  before_last Running ws x are by late = rw by waits
+
+  last_right : (clock : Clock) (ws : List Entry) (x : Entry) → AreWaits (newest_time old) ws → EndsBy clock x.what wait (newest_time old) x.now ws → line.WaitsSo (ws ++ old) (resumed s ws) x
+  last_right clock ws x are by = record {
+    polls = λ is late. before_last clock ws x are by late;
     gets = λ got. subst (λ (z : line.Closing). line.came z < line.most_datagrams) (sym (quiet_stays s (newest_time old) ws are)) (few_came s (newest_time old) waits);
   }
 
-poll_right : (s : line.Closing) (wait : ℕ) (old added : List Placed) → line.has_waited s (newest_time (entries old)) ≡ false → newest_time (entries old) + wait ≤ end_of s → PollsFor wait old added → EachFrom line.WaitsSo s (entries old) (entries added)
-poll_right s wait old added waits ends p =
+poll_right : (clock : Clock) (s : line.Closing) (wait : ℕ) (old added : List Placed) → line.has_waited s (newest_time (entries old)) ≡ false → newest_time (entries old) + wait ≤ end_of s → PollsFor clock wait old added → EachFrom line.WaitsSo s (entries old) (entries added)
+poll_right clock s wait old added waits ends p =
     let now : ℕ = newest_time (entries old) in
-    let until : p.last.what.now ≤ now + wait = ends_by p.last.what.what wait now p.last.what.now p.ends in
     let before : last_wait now (entries p.waits) ≤ p.last.what.now = subst (λ (t : ℕ). t ≤ p.last.what.now) (ap newest_time (entries_append p.waits old) ∙ newest_is (entries p.waits) (entries old)) p.later in
     subst (λ (l : List Entry). EachFrom line.WaitsSo s (entries old) l) (sym (ap entries p.parts ∙ entries_append p.sent (p.last ∷ p.waits)))
     (from_then line.WaitsSo s (entries old) (entries (p.last ∷ p.waits)) (entries p.sent)
-    (last_right s wait (entries old) waits ends (entries p.waits) p.last.what p.times until, waits_right s wait (entries old) waits ends (entries p.waits) p.times (omega (arith, before, until)))
+    (last_right s wait (entries old) waits ends clock (entries p.waits) p.last.what p.times p.ends, waits_right s wait (entries old) waits ends (entries p.waits) p.times (waits_in_time clock p.last.what.what wait now p.last.what.now (entries p.waits) p.ends before))
     (subst (λ (r : List Entry). EachFrom line.WaitsSo (resumed s (entries (p.last ∷ p.waits))) r (entries p.sent)) (entries_append (p.last ∷ p.waits) old)
     (sends_right (resumed s (entries (p.last ∷ p.waits))) ((p.last ∷ p.waits) ++ old) p.sent p.sends)))
 
@@ -164,22 +162,22 @@ some_jobs (t ∷ tasks) = ap (λ (ts : List Task). t ∷ ts) (some_jobs tasks)
 
 -- ---- the poll of a step
 
-poll_waits : (c : Option Closing) (jobs : List Job) (turns : List GroupTurn) (log : List LogEntry) (places : List Placed) (at : ℕ) (came : ℕ → ℕ) (old added : List Placed) (wait : ℕ)
-    → PollsSo jobs turns log places at (newest_time (entries old)) (closing_so_far c) came wait → HasntWaited c (newest_time (entries old)) → PollsFor wait old added → WaitsOn c old added
-poll_waits None jobs turns log places at came old added wait so waits p = absurd waits
-poll_waits (Some c) jobs turns log places at came old added wait so waits p = λ s come.
+poll_waits : (clock : Clock) (c : Option Closing) (jobs : List Job) (turns : List GroupTurn) (log : List LogEntry) (places : List Placed) (at : ℕ) (came : ℕ → ℕ) (old added : List Placed) (wait : ℕ)
+    → PollsSo jobs turns log places at (newest_time (entries old)) (closing_so_far c) came wait → HasntWaited c (newest_time (entries old)) → PollsFor clock wait old added → WaitsOn c old added
+poll_waits clock None jobs turns log places at came old added wait so waits p = absurd waits
+poll_waits clock (Some c) jobs turns log places at came old added wait so waits p = λ s come.
     let now : ℕ = newest_time (entries old) in
     let ends : now + wait ≤ end_of s = subst (λ (e : ℕ). now + wait ≤ e) (ap end_of come ∙ end_capped s) (ends_in_time jobs turns log places at now (closing_of c) came wait so waits) in
-    poll_right s wait old added (sym (capped_waited s now) ∙ subst (λ (z : line.Closing). line.has_waited z now ≡ false) come waits) ends p
+    poll_right clock s wait old added (sym (capped_waited s now) ∙ subst (λ (z : line.Closing). line.has_waited z now ≡ false) come waits) ends p
 
 module _ (p : ℕ) (s t : Story) (w : Work) (met : Bool) (f : Option HubFault) (none : f ≡ None) (keeps : Keeps p s w met f) (goes : tunnel.GoesOn s t) (law : StaysFitting) (now : ℕ) (then : WhereTold (λ places. now ≡ newest_time (entries places)) s)
     (has_place : Bool) (placed : WhereTold (λ places. (has_place ≡ true) ↔ HasPlace (channel (entries places))) s) (longest : ℕ) (rightly : PollsRightly now has_place w longest) where
-  pub polls_wait : Growing (LastsRightly longest) s t → WaitsNow w.closing s → Growing (WaitsOn w.closing) s t
+  pub polls_wait : Growing (LastsRightly (clock_of s) longest) s t → WaitsNow w.closing s → Growing (WaitsOn w.closing) s t
   polls_wait g waits old e =
       let x = g old e in
       let tasks : List Task = tasks_seen (map hub_job_of w.downloaders) in
-      let so = polls_so p s t w met f none keeps goes law now then has_place placed longest rightly (map some_job tasks) (some_jobs tasks) old x.added e x.is in
-      record { new = x.new; told = x.told; added = x.added; grown = x.grown; is = poll_waits w.closing (map some_job tasks) w.telegrams.turns w.journal.entries old (place_of t) (came_for w.crew) old x.added x.is.wait so (waits old e) x.is.polls }
+      let so = polls_so p s t w met f none keeps goes law now then has_place placed longest rightly (clock_of s) (map some_job tasks) (some_jobs tasks) old x.added e x.is in
+      record { new = x.new; told = x.told; added = x.added; grown = x.grown; is = poll_waits (clock_of s) w.closing (map some_job tasks) w.telegrams.turns w.journal.entries old (place_of t) (came_for w.crew) old x.added x.is.wait so (waits old e) x.is.polls }
 
 -- ---- whether a step may poll
 

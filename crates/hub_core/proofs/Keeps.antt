@@ -6,12 +6,13 @@ use Rattle.line_model.specs.declared.group.GroupTurn.{GroupTurn}
 use Rattle.line_model.specs.declared.log.LogEntry.{LogEntry}
 use Rattle.line_model.specs.Record.{Placed, entries}
 use Rattle.line_model.specs.Leaves.{StaysOpen}
-use Rattle.line_model.specs.LinkStory.{Story, places_in}
+use Rattle.line_model.specs.LinkStory.{Story, Clock, clock_of, places_in}
 use Rattle.line_model.specs.Log.{Job, IsLog, AllOver, TurnUnfinished}
 use Rattle.device_reservation.specs.Reservation.{Reservation}
 use Rattle.tunnel_link.specs.Adds.{place_of}
 use Rattle.tunnel_link.specs.Goes.{GoesOn}
 use Rattle.tunnel_link.specs.Rights.{WhereTold}
+use Rattle.tunnel_link.proofs.Stories.{same_clock}
 use Rattle.hub_work.specs.declared.closing.Closing.{Closing}
 use Rattle.hub_work.specs.declared.work.Work.{Work}
 use Rattle.hub_work.specs.Books.{AreJobsOf, IsWritten, IsLive, TellsInTurn, jobs_held}
@@ -98,7 +99,7 @@ Tolds s t w v met after g =
 abbrev pub HastensOn : Story → Story → Work → Type 0
 HastensOn s t w =
     (jobs : List Job) (old new : List Placed) → AreJobsWith (tasks w) jobs → AreJobsOf w.reservation.devices jobs → places_in s ≡ Some old → places_in t ≡ Some new → IsLog jobs w.telegrams.turns (place_of s) w.journal.entries
-    → EachSo (Hastens jobs w.telegrams.turns) w.journal.entries old → EachSo (Hastens jobs w.telegrams.turns) w.journal.entries new
+    → EachSo (Hastens (clock_of s) jobs w.telegrams.turns) w.journal.entries old → EachSo (Hastens (clock_of s) jobs w.telegrams.turns) w.journal.entries new
 
 -- the open channel wasn't asked to end, in so far as it isn't asked now
 abbrev pub IsOpenSoFar : Story → Type 0
@@ -139,11 +140,11 @@ moved p q s t w v met after f g none stays books goes tolds hastens opens k = re
     by_old jobs of new told was =
         tolds jobs was.0 new (k.jobs_are jobs of) was.1 told (subst (λ (h : Option HubFault). KeepsTold jobs w met h (place_of s) was.0) none (k.told jobs of was.0 was.1))
 
-    hasten : (jobs : List Job) → AreJobsWith (tasks w) jobs → (new : List Placed) → places_in t ≡ Some new → (old : List Placed) × (places_in s ≡ Some old) → EachSo (Hastens jobs v.telegrams.turns) v.journal.entries new
+    hasten : (jobs : List Job) → AreJobsWith (tasks w) jobs → (new : List Placed) → places_in t ≡ Some new → (old : List Placed) × (places_in s ≡ Some old) → EachSo (Hastens (clock_of t) jobs v.telegrams.turns) v.journal.entries new
     hasten jobs of new told was =
-        subst (λ (ts : List GroupTurn). EachSo (Hastens jobs ts) v.journal.entries new) (sym stays.turns)
-        (subst (λ (l : List LogEntry). EachSo (Hastens jobs w.telegrams.turns) l new) (sym stays.logs)
-        (hastens jobs was.0 new of (k.jobs_are jobs of) was.1 told (k.told jobs of was.0 was.1).tells.form (k.hastens jobs of was.0 was.1)))
+        subst (λ (ts : List GroupTurn). EachSo (Hastens (clock_of t) jobs ts) v.journal.entries new) (sym stays.turns)
+        (subst (λ (l : List LogEntry). EachSo (Hastens (clock_of t) jobs w.telegrams.turns) l new) (sym stays.logs)
+        (subst (λ (c : Clock). EachSo (Hastens c jobs w.telegrams.turns) w.journal.entries new) (sym (same_clock s t goes)) (hastens jobs was.0 new of (k.jobs_are jobs of) was.1 told (k.told jobs of was.0 was.1).tells.form (k.hastens jobs of was.0 was.1))))
 
 pub stays_same : (w v : Work) → SameWork w v → Stays w v
 stays_same w v same = record { tasks_are = same.tasks_are; devices = ap (λ r. r.devices) same.reservation; turns = same.turns; logs = same_log w v same; begun = same.begun }

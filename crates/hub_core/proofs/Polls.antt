@@ -8,7 +8,7 @@ use Rattle.line_model.specs.declared.log.LogEntry.{LogEntry}
 use Rattle.line_model.specs.Asks.{HasPlace}
 use Rattle.line_model.specs.ClientView.{channel}
 use Rattle.line_model.specs.Record.{Placed, entries, is_poll}
-use Rattle.line_model.specs.LinkStory.{Story, places_in, newest_time}
+use Rattle.line_model.specs.LinkStory.{Story, Clock, clock_of, places_in, newest_time}
 use Rattle.line_model.specs.Moments.{moments, time}
 use Rattle.line_model.specs.Log.{Job}
 use Rattle.line_model.specs.Closing as line
@@ -22,6 +22,7 @@ use Rattle.tunnel_link.specs.Lasts.{LastsRightly, PollsFor}
 use Rattle.tunnel_link.specs.Rights.{WhereTold}
 use Rattle.tunnel_link.proofs.Acting.{grows_then}
 use Rattle.tunnel_link.proofs.Places.{unmoved}
+use Rattle.tunnel_link.proofs.Stories.{same_clock}
 use Rattle.hub_work.specs.declared.closing.Closing.{Closing}
 use Rattle.hub_work.specs.declared.crew.Held.{Held}
 use Rattle.hub_work.specs.declared.job.HubJob.{HubJob}
@@ -81,9 +82,9 @@ sends_two a b c g h f e = grows_then SendsOnly SendsOnly SendsOnly a b c g h (λ
 
 module _ (p : ℕ) (s t : Story) (w : Work) (met : Bool) (f : Option HubFault) (none : f ≡ None) (keeps : Keeps p s w met f) (goes : GoesOn s t) (law : StaysFitting) (now : ℕ) (then : WhereTold (λ places. now ≡ newest_time (entries places)) s)
     (has_place : Bool) (placed : WhereTold (λ places. (has_place ≡ true) ↔ HasPlace (channel (entries places))) s) (longest : ℕ) (rightly : PollsRightly now has_place w longest) where
-  pub polls_so : (jobs : List Job) → AreJobs (map hub_job_of w.downloaders) jobs → (old added : List Placed) → places_in s ≡ Some old → (h : LastsRightly longest old added)
+  pub polls_so : (clock : Clock) (jobs : List Job) → AreJobs (map hub_job_of w.downloaders) jobs → (old added : List Placed) → places_in s ≡ Some old → (h : LastsRightly clock longest old added)
       → PollsSo jobs w.telegrams.turns w.journal.entries old (place_of t) (newest_time (entries old)) (closing_so_far w.closing) (came_for w.crew) h.wait
-  polls_so jobs of old added e h =
+  polls_so clock jobs of old added e h =
       let k = keeps.told jobs (subst (λ (ts : List Task). AreJobsWith ts jobs) (seen_tasks w) of) old e in
       let same : now ≡ newest_time (entries old) = then old e in
       let up : place_of s ≤ place_of t = place_grows s t goes in
@@ -93,18 +94,18 @@ module _ (p : ℕ) (s t : Story) (w : Work) (met : Bool) (f : Option HubFault) (
       (rightly jobs old (place_of t) h.wait (books_later (place_of s) (place_of t) w up k.books) (law jobs w now (place_of s) (place_of t) (moments old) k.books here up) (placed old e)
       (subst (λ n. LastsUntil (min longest longest_poll) (Contains (channel_deadlines (channel (entries old)))) n h.wait) (sym same) h.until))
 
-  one_poll : (jobs : List Job) → AreJobs (map hub_job_of w.downloaders) jobs → (old added : List Placed) → places_in s ≡ Some old → LastsRightly longest old added → PollsOnce jobs w.telegrams.turns w.journal.entries w.crew (closing_so_far w.closing) (place_of t) old added
+  one_poll : (jobs : List Job) → AreJobs (map hub_job_of w.downloaders) jobs → (old added : List Placed) → places_in s ≡ Some old → LastsRightly (clock_of s) longest old added → PollsOnce (clock_of t) jobs w.telegrams.turns w.journal.entries w.crew (closing_so_far w.closing) (place_of t) old added
   one_poll jobs of old added e h = record {
     sent = [];
     polled = added;
     parts = sym (append-nil added);
     sends = refl;
     wait = h.wait;
-    rightly = polls_so jobs of old added e h;
-    polls = h.polls;
+    rightly = polls_so (clock_of s) jobs of old added e h;
+    polls = subst (λ (c : Clock). PollsFor c h.wait old added) (sym (same_clock s t goes)) h.polls;
   }
 
-  pub polls_once : Growing (LastsRightly longest) s t → Polls (map hub_job_of w.downloaders) w.telegrams.turns w.journal.entries w.crew w.closing s t
+  pub polls_once : Growing (LastsRightly (clock_of s) longest) s t → Polls (map hub_job_of w.downloaders) w.telegrams.turns w.journal.entries w.crew w.closing s t
   polls_once g jobs of old e = let x = g old e in record { new = x.new; told = x.told; added = x.added; grown = x.grown; is = one_poll jobs of old x.added e x.is }
 
 -- ---- whether a worker has work
@@ -120,16 +121,16 @@ module _ (p : ℕ) (s : Story) (w : Work) (met : Bool) (f : Option HubFault) (no
 
 -- ---- what was sent before it
 
-sent_first : (jobs : List Job) (turns : List GroupTurn) (log : List LogEntry) (crew : List (Option Held)) (closing : Option line.Closing) (at : ℕ) (old one two : List Placed) → SendsOnly old one → PollsOnce jobs turns log crew closing at (one ++ old) two
-    → PollsOnce jobs turns log crew closing at old (two ++ one)
-sent_first jobs turns log crew closing at old one two s x = record {
+sent_first : (clock : Clock) (jobs : List Job) (turns : List GroupTurn) (log : List LogEntry) (crew : List (Option Held)) (closing : Option line.Closing) (at : ℕ) (old one two : List Placed) → SendsOnly old one → PollsOnce clock jobs turns log crew closing at (one ++ old) two
+    → PollsOnce clock jobs turns log crew closing at old (two ++ one)
+sent_first clock jobs turns log crew closing at old one two s x = record {
   sent = x.sent ++ one;
   polled = x.polled;
   parts = ap (λ (l : List Placed). l ++ one) x.parts ∙ append_assoc x.polled x.sent one;
   sends = any_both x.sent one x.sends s;
   wait = x.wait;
   rightly = subst (λ (l : List Placed). PollsSo jobs turns log l at (newest_time (entries l)) closing (came_for crew) x.wait) (sym (append_assoc x.sent one old)) x.rightly;
-  polls = subst (λ (l : List Placed). PollsFor x.wait l x.polled) (sym (append_assoc x.sent one old)) x.polls;
+  polls = subst (λ (l : List Placed). PollsFor clock x.wait l x.polled) (sym (append_assoc x.sent one old)) x.polls;
 }
 
 -- of the hub before the call and before its poll
@@ -137,18 +138,18 @@ module _ {L : Type 0} (x y : Seen L) (run : SameRun x y) (log : y.log ≡ x.log)
   pub jobs_back : (jobs : List Job) → AreJobs x.jobs jobs → AreJobs y.jobs jobs
   jobs_back jobs of = subst (λ (ts : List Task). AreJobsWith ts jobs) (sym run.tasks) of
 
-  once_same : (jobs : List Job) (crew : List (Option Held)) (closing : Option line.Closing) (at : ℕ) (old added : List Placed) → y.crew ≡ crew → PollsOnce jobs y.turns y.log y.crew closing at old added → PollsOnce jobs x.turns x.log crew closing at old added
-  once_same jobs crew closing at old added same h =
-      subst (λ (ts : List GroupTurn). PollsOnce jobs ts x.log crew closing at old added) run.turns
-      (subst (λ (l : List LogEntry). PollsOnce jobs y.turns l crew closing at old added) log (subst (λ (c : List (Option Held)). PollsOnce jobs y.turns y.log c closing at old added) same h))
+  once_same : (clock : Clock) (jobs : List Job) (crew : List (Option Held)) (closing : Option line.Closing) (at : ℕ) (old added : List Placed) → y.crew ≡ crew → PollsOnce clock jobs y.turns y.log y.crew closing at old added → PollsOnce clock jobs x.turns x.log crew closing at old added
+  once_same clock jobs crew closing at old added same h =
+      subst (λ (ts : List GroupTurn). PollsOnce clock jobs ts x.log crew closing at old added) run.turns
+      (subst (λ (l : List LogEntry). PollsOnce clock jobs y.turns l crew closing at old added) log (subst (λ (c : List (Option Held)). PollsOnce clock jobs y.turns y.log c closing at old added) same h))
 
   module _ (a c d : Story) (first : GoesOn a c) (then : GoesOn c d) (sends : Growing SendsOnly a c) where
     pub pumps_once : WhereTold (λ places. (y.crew ≡ x.crew) × (y.closing ≡ x.closing)) a → Polls y.jobs y.turns y.log y.crew y.closing c d → Polls x.jobs x.turns x.log x.crew x.closing a d
     pumps_once still polls jobs of old e =
         let same = still old e in
-        grows_then SendsOnly (PollsOnce jobs y.turns y.log y.crew (closing_so_far y.closing) (place_of d)) (PollsOnce jobs x.turns x.log x.crew (closing_so_far x.closing) (place_of d)) a c d first then
-        (λ before one two s h. subst (λ (o : Option Closing). PollsOnce jobs x.turns x.log x.crew (closing_so_far o) (place_of d) before (two ++ one)) same.1
-        (once_same jobs x.crew (closing_so_far y.closing) (place_of d) before (two ++ one) same.0 (sent_first jobs y.turns y.log y.crew (closing_so_far y.closing) (place_of d) before one two s h)))
+        grows_then SendsOnly (PollsOnce (clock_of d) jobs y.turns y.log y.crew (closing_so_far y.closing) (place_of d)) (PollsOnce (clock_of d) jobs x.turns x.log x.crew (closing_so_far x.closing) (place_of d)) a c d first then
+        (λ before one two s h. subst (λ (o : Option Closing). PollsOnce (clock_of d) jobs x.turns x.log x.crew (closing_so_far o) (place_of d) before (two ++ one)) same.1
+        (once_same (clock_of d) jobs x.crew (closing_so_far y.closing) (place_of d) before (two ++ one) same.0 (sent_first (clock_of d) jobs y.turns y.log y.crew (closing_so_far y.closing) (place_of d) before one two s h)))
         sends (polls jobs (jobs_back jobs of)) old e
 
 -- ---- in the closing
@@ -165,31 +166,31 @@ module _ {L : Type 0} (x y : Seen L) (run : SameRun x y) (log : y.log ≡ x.log)
     (begins : WhereTold (λ places. Begins (newest_time (entries places)) x.closing y.closing) a) where
   pub closes_once : Polls y.jobs y.turns y.log y.crew y.closing c d → PollsInClosing x.jobs x.turns x.log x.crew x.closing a d
   closes_once polls jobs of old e =
-      let g = grows_then SendsOnly (PollsOnce jobs y.turns y.log y.crew (closing_so_far y.closing) (place_of d)) (PollsOnce jobs x.turns x.log x.crew (closing_so_far y.closing) (place_of d)) a c d first then
-      (λ before one two s h. once_same x y run log jobs x.crew (closing_so_far y.closing) (place_of d) before (two ++ one) (crew old e) (sent_first jobs y.turns y.log y.crew (closing_so_far y.closing) (place_of d) before one two s h))
+      let g = grows_then SendsOnly (PollsOnce (clock_of d) jobs y.turns y.log y.crew (closing_so_far y.closing) (place_of d)) (PollsOnce (clock_of d) jobs x.turns x.log x.crew (closing_so_far y.closing) (place_of d)) a c d first then
+      (λ before one two s h. once_same x y run log (clock_of d) jobs x.crew (closing_so_far y.closing) (place_of d) before (two ++ one) (crew old e) (sent_first (clock_of d) jobs y.turns y.log y.crew (closing_so_far y.closing) (place_of d) before one two s h))
       sends (polls jobs (jobs_back x y run log jobs of)) old e in
-      record { new = g.new; told = g.told; added = g.added; grown = g.grown; is = inr (subst (λ (o : Option line.Closing). PollsOnce jobs x.turns x.log x.crew o (place_of d) old g.added) (so_far_is (newest_time (entries old)) x.closing y.closing (begins old e)) g.is) }
+      record { new = g.new; told = g.told; added = g.added; grown = g.grown; is = inr (subst (λ (o : Option line.Closing). PollsOnce (clock_of d) jobs x.turns x.log x.crew o (place_of d) old g.added) (so_far_is (newest_time (entries old)) x.closing y.closing (begins old e)) g.is) }
 
   pub goes_once : PollsInClosing y.jobs y.turns y.log y.crew y.closing c d → PollsInClosing x.jobs x.turns x.log x.crew x.closing a d
   goes_once polls jobs of old e =
       let h = polls jobs (jobs_back x y run log jobs of) in
-      grows_then (λ before one. SendsOnly before one × (before ≡ old)) (PollsOrNot jobs y.turns y.log y.crew y.closing (place_of d)) (PollsOrNot jobs x.turns x.log x.crew x.closing (place_of d)) a c d first then
+      grows_then (λ before one. SendsOnly before one × (before ≡ old)) (PollsOrNot (clock_of d) jobs y.turns y.log y.crew y.closing (place_of d)) (PollsOrNot (clock_of d) jobs x.turns x.log x.crew x.closing (place_of d)) a c d first then
       (λ before one two s q. either before one two s q) (λ l el. let z = sends l el in record { new = z.new; told = z.told; added = z.added; grown = z.grown; is = (z.is, some_is l old (sym el ∙ e)) }) h old e
     where
       some_is : (l m : List Placed) → Some l ≡ Some m → l ≡ m
       some_is l m q = cc
 
-      either : (before one two : List Placed) → SendsOnly before one × (before ≡ old) → PollsOrNot jobs y.turns y.log y.crew y.closing (place_of d) (one ++ before) two → PollsOrNot jobs x.turns x.log x.crew x.closing (place_of d) before (two ++ one)
+      either : (before one two : List Placed) → SendsOnly before one × (before ≡ old) → PollsOrNot (clock_of d) jobs y.turns y.log y.crew y.closing (place_of d) (one ++ before) two → PollsOrNot (clock_of d) jobs x.turns x.log x.crew x.closing (place_of d) before (two ++ one)
       either before one two (s, is) (inl none) = inl (any_both two one none s)
       either before one two (s, is) (inr h) =
           let begun : Begins (newest_time (entries before)) x.closing y.closing = subst (λ (l : List Placed). Begins (newest_time (entries l)) x.closing y.closing) (sym is) (begins old e) in
-          inr (subst (λ (o : line.Closing). PollsOnce jobs x.turns x.log x.crew (Some o) (place_of d) before (two ++ one)) (closing_same (newest_time (entries before)) (newest_time (entries (one ++ before))) x.closing y.closing begun)
-          (once_same x y run log jobs x.crew (Some (closing_at (newest_time (entries (one ++ before))) y.closing)) (place_of d) before (two ++ one) (crew old e)
-          (sent_first jobs y.turns y.log y.crew (Some (closing_at (newest_time (entries (one ++ before))) y.closing)) (place_of d) before one two s h)))
+          inr (subst (λ (o : line.Closing). PollsOnce (clock_of d) jobs x.turns x.log x.crew (Some o) (place_of d) before (two ++ one)) (closing_same (newest_time (entries before)) (newest_time (entries (one ++ before))) x.closing y.closing begun)
+          (once_same x y run log (clock_of d) jobs x.crew (Some (closing_at (newest_time (entries (one ++ before))) y.closing)) (place_of d) before (two ++ one) (crew old e)
+          (sent_first (clock_of d) jobs y.turns y.log y.crew (Some (closing_at (newest_time (entries (one ++ before))) y.closing)) (place_of d) before one two s h)))
 
 -- a step that polls nothing
 pub closes_unpolled : (hub_jobs : List HubJob) (turns : List GroupTurn) (log : List LogEntry) (crew : List (Option Held)) (closing : Option Closing) (s t : Story) → Growing SendsOnly s t → PollsInClosing hub_jobs turns log crew closing s t
-closes_unpolled hub_jobs turns log crew closing s t g jobs of = grows_as SendsOnly (PollsOrNot jobs turns log crew closing (place_of t)) s t (λ old added h. inl h) g
+closes_unpolled hub_jobs turns log crew closing s t g jobs of = grows_as SendsOnly (PollsOrNot (clock_of t) jobs turns log crew closing (place_of t)) s t (λ old added h. inl h) g
 
 -- ---- a run of two calls
 

@@ -7,7 +7,8 @@ use Rattle.line_model.specs.declared.log.LogEntry.{LogEntry}
 use Rattle.line_model.specs.Record.{Placed}
 use Rattle.line_model.specs.Log.{Job, IsLog, log_before}
 use Rattle.line_model.specs.Asks.{EachRight}
-use Rattle.line_model.specs.Haste.{LosesNoTimes}
+use Rattle.line_model.specs.Haste.{HastenBy}
+use Rattle.line_model.specs.LinkStory.{Clock, Exact, Running}
 use Rattle.hub_work.proofs.Growing.{AreAbove, AreUpto, told_grown, before_new}
 use Rattle.hub_core.proofs.AtRest.{rests_grown}
 use Rattle.hub_core.proofs.Requests.{Each}
@@ -33,14 +34,16 @@ each_added P jobs turns n log (p ∷ added) old is above right h =
     (subst (λ (l : List LogEntry). P l (added ++ old) p) (sym (before_new jobs turns n p.at log is above.0)) right.0, each_added P jobs turns n log added old is above.1 right.1 h)
 
 -- what is asked rightly, and promptly
-pub each_right : (jobs : List Job) (turns : List GroupTurn) (log : List LogEntry) (places : List Placed) → EachSo (Asks jobs turns) log places → EachSo (Hastens jobs turns) log places → EachRight jobs turns log places
-each_right jobs turns log [] asks hastens = tt
-each_right jobs turns log (p ∷ older) asks hastens = (record { asks = asks.0.right; prompt = hastens.0.prompt }, each_right jobs turns log older asks.1 hastens.1)
+pub each_right : (clock : Clock) (jobs : List Job) (turns : List GroupTurn) (log : List LogEntry) (places : List Placed) → EachSo (Asks jobs turns) log places → EachSo (Hastens clock jobs turns) log places → EachRight jobs turns log places
+each_right clock jobs turns log [] asks hastens = tt
+each_right clock jobs turns log (p ∷ older) asks hastens = (record { asks = asks.0.right; prompt = hastens.0.prompt }, each_right clock jobs turns log older asks.1 hastens.1)
 
 -- without a loss of time
-pub loses_none : (jobs : List Job) (turns : List GroupTurn) (log : List LogEntry) (places : List Placed) → EachSo (Hastens jobs turns) log places → LosesNoTimes jobs turns log places
-loses_none jobs turns log [] hastens = tt
-loses_none jobs turns log (p ∷ older) hastens = (hastens.0.loses_none, loses_none jobs turns log older hastens.1)
+pub loses_none : (clock : Clock) (jobs : List Job) (turns : List GroupTurn) (log : List LogEntry) (places : List Placed) → EachSo (Hastens clock jobs turns) log places → HastenBy clock jobs turns log places
+loses_none Exact jobs turns log [] hastens = tt
+loses_none Exact jobs turns log (p ∷ older) hastens = (hastens.0.loses_none, loses_none Exact jobs turns log older hastens.1)
+loses_none Running jobs turns log [] hastens = tt
+loses_none Running jobs turns log (p ∷ older) hastens = (hastens.0.loses_none, loses_none Running jobs turns log older hastens.1)
 
 -- ---- all of it
 

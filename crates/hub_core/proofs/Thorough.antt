@@ -21,5 +21,5 @@ thorough_of jobs turns log k n places told kept = record { ends = told.rests; be
 
 pub thorough_over : (jobs : List Job) (turns : List GroupTurn) (log : List LogEntry) (story : Story) (k : Known) → TellsIn jobs turns log story → KeepsRecord k story → IsThoroughOver jobs story log
 thorough_over jobs turns log Untold k tells kept = tt
-thorough_over jobs turns log (Recorded r) k tells kept = thorough_of jobs turns log k (length r) (counted r) (tells (counted r) refl) (kept (counted r) refl)
+thorough_over jobs turns log (Recorded clock r) k tells kept = thorough_of jobs turns log k (length r) (counted r) (tells (counted r) refl) (kept (counted r) refl)
 thorough_over jobs turns log (Full start events) k tells kept = thorough_of jobs turns log k (length events) (placed start events) (tells (placed start events) refl) (kept (placed start events) refl)

@@ -6,7 +6,7 @@ use Rattle.line_model.specs.declared.group.GroupTurn.{GroupTurn}
 use Rattle.line_model.specs.declared.log.LogEntry.{LogEntry}
 use Rattle.line_model.specs.declared.log.LogWhat.{LogWhat}
 use Rattle.line_model.specs.Record.{Placed}
-use Rattle.line_model.specs.LinkStory.{Story, places_in, IsPlace}
+use Rattle.line_model.specs.LinkStory.{Story, clock_of, places_in, IsPlace}
 use Rattle.line_model.specs.Moments.{moments, time}
 use Rattle.line_model.specs.Log.{Job, IsLog, JobUnfinished, TurnUnfinished, has_entry, is_turn}
 use Rattle.tunnel_link.specs.Adds.{place_of}
@@ -122,11 +122,11 @@ written p at s w v met f none same is run books writes follows k = record {
       turns_told = λ u. over.turns_told (untold_on at w.journal.entries v.journal.entries writes w.telegrams.turns (subst (λ (ts : List GroupTurn). TurnUnfinished ts v.journal.entries) run.turns u));
     }
 
-    hasten : (jobs : List Job) → AreJobsWith (tasks w) jobs → (places : List Placed) → places_in s ≡ Some places → EachSo (Hastens jobs v.telegrams.turns) v.journal.entries places
+    hasten : (jobs : List Job) → AreJobsWith (tasks w) jobs → (places : List Placed) → places_in s ≡ Some places → EachSo (Hastens (clock_of s) jobs v.telegrams.turns) v.journal.entries places
     hasten jobs back places e =
         let there : at ≡ place_of s = place_counts at s places e is in
-        subst (λ (ts : List GroupTurn). EachSo (Hastens jobs ts) v.journal.entries places) (sym run.turns)
-        (each_on (Hastens jobs w.telegrams.turns) at places (subst (λ (n : ℕ). AreUpto n places) (sym there) (places_upto s places e)) w.journal.entries v.journal.entries writes (k.hastens jobs back places e))
+        subst (λ (ts : List GroupTurn). EachSo (Hastens (clock_of s) jobs ts) v.journal.entries places) (sym run.turns)
+        (each_on (Hastens (clock_of s) jobs w.telegrams.turns) at places (subst (λ (n : ℕ). AreUpto n places) (sym there) (places_upto s places e)) w.journal.entries v.journal.entries writes (k.hastens jobs back places e))
 
     by_told : (jobs : List Job) → AreJobsWith (tasks w) jobs → (places : List Placed) → places_in s ≡ Some places → KeepsTold jobs v met f (place_of s) places
     by_told jobs back places e =

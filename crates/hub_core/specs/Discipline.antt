@@ -7,7 +7,8 @@ use Rattle.line_model.specs.Record.{Placed, entries}
 use Rattle.line_model.specs.Log.{Job, IsLog, log_before, JobUnfinished, TurnUnfinished}
 use Rattle.line_model.specs.Told.{ToldTruly}
 use Rattle.line_model.specs.Renews.{PollsPromptly}
-use Rattle.line_model.specs.Haste.{LosesNoTime}
+use Rattle.line_model.specs.Haste.{LosesNoTime, ActsInOrder}
+use Rattle.line_model.specs.LinkStory.{Clock, Exact, Running}
 use Rattle.line_model.specs.Asks.{IsRightDeed, moment_of}
 use Rattle.line_model.specs.Ends.{EndsAtRest, BeginsSo}
 
@@ -25,10 +26,14 @@ pub record Asks (jobs : List Job) (turns : List GroupTurn) (log : List LogEntry)
 abbrev pub IsPrompt : List Job → List GroupTurn → List LogEntry → List Placed → Placed → Type 0
 IsPrompt jobs turns log older p = JobUnfinished jobs log ⊎ TurnUnfinished turns log → PollsPromptly (entries older) p.what
 
--- and no time is lost
-pub record Hastens (jobs : List Job) (turns : List GroupTurn) (log : List LogEntry) (older : List Placed) (p : Placed) : Type 0 where
+-- and no time is lost, so far as the link's clock allows to say
+abbrev pub LosesNone : Clock → List Job → List GroupTurn → List LogEntry → List Placed → Placed → Type 0
+LosesNone Exact jobs turns log older p = LosesNoTime jobs turns log older p
+LosesNone Running jobs turns log older p = ActsInOrder jobs turns log older p
+
+pub record Hastens (clock : Clock) (jobs : List Job) (turns : List GroupTurn) (log : List LogEntry) (older : List Placed) (p : Placed) : Type 0 where
   pub prompt : IsPrompt jobs turns log older p
-  pub loses_none : LosesNoTime jobs turns log older p
+  pub loses_none : LosesNone clock jobs turns log older p
 
 pub record TellsAndAsks (jobs : List Job) (turns : List GroupTurn) (log : List LogEntry) (count : ℕ) (places : List Placed) : Type 0 where
   pub form : IsLog jobs turns count log

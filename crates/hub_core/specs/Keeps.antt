@@ -8,7 +8,7 @@ use Rattle.line_model.specs.declared.fault.HubFault.TheVariants.{NoMemory, LinkF
 use Rattle.line_model.specs.declared.group.GroupTurn.{GroupTurn}
 use Rattle.line_model.specs.declared.log.LogEntry.{LogEntry}
 use Rattle.line_model.specs.Record.{Entry, Placed, entries}
-use Rattle.line_model.specs.LinkStory.{Story}
+use Rattle.line_model.specs.LinkStory.{Story, clock_of}
 use Rattle.line_model.specs.Moments.{moments, time}
 use Rattle.line_model.specs.Log.{Job, JobUnfinished, TurnUnfinished}
 use Rattle.line_model.specs.Leaves.{StaysOpen}
@@ -63,5 +63,5 @@ pub record Keeps (place : ℕ) (story : Story) (w : Work) (met : Bool) (fault : 
   pub jobs_are : (jobs : List Job) → AreJobsWith (tasks w) jobs → AreJobsOf w.reservation.devices jobs
   pub closes : w.closing ≢ None → IsAllDone w.reservation.devices w.telegrams.turns w.journal.entries
   pub told : (jobs : List Job) → AreJobsWith (tasks w) jobs → WhereTold (KeepsTold jobs w met fault (place_of story)) story
-  pub hastens : (jobs : List Job) → AreJobsWith (tasks w) jobs → WhereTold (EachSo (Hastens jobs w.telegrams.turns) w.journal.entries) story
+  pub hastens : (jobs : List Job) → AreJobsWith (tasks w) jobs → WhereTold (EachSo (Hastens (clock_of story) jobs w.telegrams.turns) w.journal.entries) story
   pub stays : fault ≡ None → has_asked w.closing ≡ false → WhereTold (λ places. StaysOpen (entries places)) story

@@ -5,11 +5,11 @@ use Rattle.line_model.specs.declared.fault.HubFault.{HubFault}
 use Rattle.line_model.specs.declared.group.GroupTurn.{GroupTurn}
 use Rattle.line_model.specs.declared.log.LogEntry.{LogEntry}
 use Rattle.line_model.specs.Record.{Entry, placed, counted}
-use Rattle.line_model.specs.LinkStory.{Story, Untold, Recorded, Full}
+use Rattle.line_model.specs.LinkStory.{Story, Untold, Recorded, Full, clock_of}
 use Rattle.line_model.specs.Log.{Job}
 use Rattle.line_model.specs.Dropped.{dropped}
 use Rattle.line_model.specs.Faults.{FaultRight}
-use Rattle.line_model.specs.Haste.{LosesNoTimes}
+use Rattle.line_model.specs.Haste.{HastenBy}
 use Rattle.line_model.specs.Headline.{IsRight}
 use Rattle.line_model.specs.Leaves.{LeavesRightly}
 use Rattle.line_law.specs.Safe.{IsSafe, KeepsSafe}
@@ -19,28 +19,28 @@ use Rattle.hub_core.specs.Discipline.{TellsAndAsks}
 
 abbrev pub IsRightOver : List Job → Story → List LogEntry → Type 0
 IsRightOver jobs Untold log = Unit {0}
-IsRightOver jobs (Recorded r) log = Unit {0}
+IsRightOver jobs (Recorded clock r) log = Unit {0}
 IsRightOver jobs (Full start events) log = IsRight jobs start events log
 
 -- all that the line's promises need of the client
 abbrev pub IsSafeOver : List Job → List GroupTurn → Story → List LogEntry → Type 0
 IsSafeOver jobs turns Untold log = Unit {0}
-IsSafeOver jobs turns (Recorded r) log = IsSafe jobs turns (length r) (counted r) log
+IsSafeOver jobs turns (Recorded clock r) log = IsSafe jobs turns (length r) (counted r) log
 IsSafeOver jobs turns (Full start events) log = KeepsSafe jobs turns start events log
 
 -- the open channel isn't asked to end before all is over, and then rightly
 abbrev pub LeavesOver : List Job → List GroupTurn → Story → List LogEntry → Type 0
 LeavesOver jobs turns Untold log = Unit {0}
-LeavesOver jobs turns (Recorded r) log = LeavesRightly jobs turns log (counted r)
+LeavesOver jobs turns (Recorded clock r) log = LeavesRightly jobs turns log (counted r)
 LeavesOver jobs turns (Full start events) log = LeavesRightly jobs turns log (placed start events)
 
 -- the log is one of its jobs and telegrams, what it tells is true, and each request was right
 abbrev pub TellsIn : List Job → List GroupTurn → List LogEntry → Story → Type 0
 TellsIn jobs turns log story = WhereTold (TellsAndAsks jobs turns log (place_of story)) story
 
--- it lost no time
+-- it lost no time: of what is said of it, what its link's clock allows
 abbrev pub HastensIn : List Job → List GroupTurn → List LogEntry → Story → Type 0
-HastensIn jobs turns log story = WhereTold (LosesNoTimes jobs turns log) story
+HastensIn jobs turns log story = WhereTold (HastenBy (clock_of story) jobs turns log) story
 
 -- of the record, where it is told
 abbrev pub FaultRightIn : List Job → List LogEntry → Option HubFault → Option (List Entry) → Type 0

@@ -16,5 +16,5 @@ pub record IsThorough (jobs : List Job) (places : List Placed) (log : List LogEn
 -- where the link tells something
 abbrev pub IsThoroughOver : List Job → Story → List LogEntry → Type 0
 IsThoroughOver jobs Untold log = Unit {0}
-IsThoroughOver jobs (Recorded r) log = IsThorough jobs (counted r) log
+IsThoroughOver jobs (Recorded clock r) log = IsThorough jobs (counted r) log
 IsThoroughOver jobs (Full start events) log = IsThorough jobs (placed start events) log

@@ -1,5 +1,7 @@
 //! A link in memory, which tells nothing: a gateway that answers at once, with one device on the bus.
 
+ghost use Rattle.std.specs.Prelude.{◌≡◌, ◌≤◌};
+
 use device_sim::Device;
 use knx_model::{ApduOctets, Datagram, IndAddr, IpFrame, Ldata, LdataCode, NoMemory, Took};
 use line_model::{Link, LinkFault, Polled};
@@ -23,10 +25,19 @@ pub enum Mood {
     DropsFrom(u32),
 }
 
+/// A poll that lasts longer than its wait, by so many milliseconds; polls are counted from 1.
+#[derive(Clone, Copy, Debug, Drop, PartialEq, Eq)]
+pub struct Jump {
+    pub poll: u64,
+    pub ms: u64,
+}
+
 /// A gateway with its device, the time, and how often it was called.
 #[derive(Drop)]
 pub struct Gateway {
     pub side: Side,
+    pub polls: u64,
+    jump: Option<Jump>,
     now: u64,
     at: u64,
 }
@@ -52,8 +63,31 @@ impl Gateway {
     pub fn new(alloc: Global, device: Device, mood: Mood) -> Gateway {
         Gateway {
             side: Side::new(alloc, device, mood),
+            polls: 0,
+            jump: None,
             now: 0,
             at: 0,
+        }
+    }
+
+    /// The same gateway, over a link whose clock jumps so.
+    pub fn jumping(self, jump: Jump) -> Gateway {
+        let mut gateway = self;
+        gateway.jump = Some(jump);
+        gateway
+    }
+
+    /// Counts a poll, and lets the clock jump in it where it is to.
+    fn begin_poll(&mut self)
+        ensures time { self.old.now ≤ self.new.now }
+        ensures events { self.new.at ≡ self.old.at }
+    {
+        self.polls = self.polls.saturating_add(1);
+        match self.jump {
+            Some(jump) if jump.poll == self.polls => {
+                self.now = self.now.saturating_add(jump.ms);
+            }
+            _ => {}
         }
     }
 }
@@ -257,6 +291,7 @@ impl Link for Gateway {
 
     fn poll(&mut self, into: &mut [u8; 512], wait_ms: u32) -> Result<Polled, LinkFault> {
         self.at = self.at.saturating_add(1);
+        self.begin_poll();
         self.side.hears(self.now)?;
         self.side.puts()?;
         if self.side.inbox.is_empty() {

@@ -13,6 +13,7 @@ mod begin;
 mod datagrams;
 mod examples;
 mod failing;
+mod jumping;
 mod line;
 mod listening;
 mod polls;

@@ -1,5 +1,5 @@
 -- Datagrams at a socket: those that it was given and those that come to it, where it tells them; and the faults that its errors are.
-use Rattle.std.specs.Prelude.{◌≡◌, ◌≢◌, ◌++◌, ℕ, Bool, true, false, List, [], ◌∷◌, take, slice_get, IfSome, Option, Some, None}
+use Rattle.std.specs.Prelude.{◌≡◌, ◌≢◌, ◌++◌, ℕ, Bool, true, false, List, [], ◌∷◌, take, slice_get, IfSome, Option, Some, None, Result, Ok, Err}
 use Rattle.std.specs.declared.io.ErrorKind.{ErrorKind}
 use Rattle.std.specs.declared.io.ErrorKind.TheVariants.{OutOfMemory, WouldBlock, TimedOut, Interrupted}
 use Rattle.std.specs.List.{AllByRecursion}
@@ -103,3 +103,8 @@ port_fault_of _ = port_fault.Failed
 abbrev pub counted : ErrorKind → ℕ → ℕ
 counted OutOfMemory faults = faults
 counted _ faults = one_more faults
+
+-- ---- how many calls of a link were answered: one more, where this one is; at most the greatest number of 64 bits
+abbrev pub entries_after : {X : Type 0} → Result X LinkFault → ℕ → ℕ
+entries_after (Ok x) done = one_more done
+entries_after (Err fault) done = done

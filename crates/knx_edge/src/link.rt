@@ -1,11 +1,13 @@
-//! The link to a gateway over UDP. It tells nothing of what it sends and gets. What comes from another host than the gateway's is passed over.
+//! The link to a gateway over UDP. It tells nothing of what it sends and gets; but what its caller sees of it is what he sees of a link that tells its
+//! record with a clock that runs: a sending is given to the socket whole, what is got is a datagram that came, each call that is answered is one
+//! entry, and the clock is read in polls alone and never runs back. What comes from another host than the gateway's is passed over.
 
 ghost use Rattle.std.specs.IoError.{error_kind};
 ghost use Rattle.std.specs.Prelude.{◌≡◌, ◌≤◌, Err, IfErr, IfOk, Ok, OnErr, OnOk};
 ghost use Rattle.knx_model.specs.Outside.{one_more};
 ghost use Rattle.line_model.specs.LinkStory.{Renews, RenewsOrNot, Sends, SendsOrNot, Untold};
 ghost use Rattle.line_model.specs.Polled.{FailsWhere, PollsSo};
-ghost use Rattle.knx_edge.specs.Datagrams.{Gives, IsUnused, LinkBrings, counted, link_fault_of};
+ghost use Rattle.knx_edge.specs.Datagrams.{Gives, IsUnused, LinkBrings, counted, entries_after, link_fault_of};
 
 use crate::disk::memory_of;
 use crate::socket::{Datagrams, LONGEST, Senders, address_of, receive_of, send_whole};
@@ -21,7 +23,7 @@ pub struct UdpLink<'a, R, S> {
     socket: S,
     gateway: SocketAddr,
     started: Instant,
-    /// The last time that was read, in milliseconds since the link was opened.
+    /// The last time that was read, at the end of the last poll, in milliseconds since the link was opened.
     time: u64,
     /// How many datagrams were sent, new endpoints taken and waits ended.
     done: u64,
@@ -56,6 +58,7 @@ impl<'a, R: Net + Clock, S: Datagrams> UdpLink<'a, R, S> {
     /// Reads the clock; a time before the last one is that.
     fn read_clock(&mut self) -> io::Result<()>
         ensures time { self.old.time ≤ self.new.time }
+        ensures failed { OnErr result (self.new.time ≡ self.old.time) }
         ensures others { self.new ≡ record self.old { time = self.new.time } }
     {
         let passed = self.started.elapsed(self.rt)?.as_millis();
@@ -64,13 +67,11 @@ impl<'a, R: Net + Clock, S: Datagrams> UdpLink<'a, R, S> {
         Ok(())
     }
 
-    /// Reads the clock, and sends a datagram to the gateway.
+    /// Sends a datagram to the gateway.
     fn put(&mut self, octets: &[u8]) -> io::Result<()>
         ensures given { OnOk result (Gives (record { octets = octets.now; peer = self.old.gateway }) (S.sent self.old.socket) (S.sent self.new.socket)) }
-        ensures time { self.old.time ≤ self.new.time }
-        ensures others { self.new ≡ record self.old { time = self.new.time; socket = self.new.socket } }
+        ensures others { self.new ≡ record self.old { socket = self.new.socket } }
     {
-        self.read_clock()?;
         send_whole(&mut self.socket, octets, self.gateway)
     }
 
@@ -79,6 +80,7 @@ impl<'a, R: Net + Clock, S: Datagrams> UdpLink<'a, R, S> {
         ensures brings { IfOk result (λ polled. LinkBrings self.old.gateway polled into.new (S.coming self.old.socket) (S.coming self.new.socket)) }
         ensures polled { IfOk result (λ polled. PollsSo (Ok polled) into.new wait_ms self.new.time Untold Untold) }
         ensures time { self.old.time ≤ self.new.time }
+        ensures failed { OnErr result (self.new.time ≡ self.old.time) }
         ensures others { self.new ≡ record self.old { time = self.new.time; socket = self.new.socket } }
     {
         let senders = Senders::at(self.gateway);
@@ -107,6 +109,7 @@ impl<'a, R: Net + Clock, S: Datagrams> UdpLink<'a, R, S> {
         ensures cause { FailsWhere result self.old.faults self.new.faults }
         ensures count { self.old.faults ≤ self.new.faults }
         ensures events { self.old.done ≤ self.new.done }
+        ensures entry { self.new.done ≡ entries_after result self.old.done }
     {
         let error = match done {
             Ok(done) => {
@@ -145,8 +148,9 @@ impl<R: Net + Clock, S: Datagrams> Link for UdpLink<'_, R, S> {
         ensures gateway { self.new.gateway ≡ self.old.gateway }
         ensures cause { FailsWhere result self.old.faults self.new.faults }
         ensures count { self.old.faults ≤ self.new.faults }
-        ensures time { self.old.time ≤ self.new.time }
+        ensures time { self.new.time ≡ self.old.time }
         ensures events { self.old.done ≤ self.new.done }
+        ensures entry { self.new.done ≡ entries_after result self.old.done }
     {
         let sent = self.put(octets);
         self.answer(sent)
@@ -161,8 +165,9 @@ impl<R: Net + Clock, S: Datagrams> Link for UdpLink<'_, R, S> {
         ensures socket { OnErr result (self.new.socket ≡ self.old.socket) }
         ensures cause { FailsWhere result self.old.faults self.new.faults }
         ensures count { self.old.faults ≤ self.new.faults }
-        ensures time { self.old.time ≤ self.new.time }
+        ensures time { self.new.time ≡ self.old.time }
         ensures events { self.old.done ≤ self.new.done }
+        ensures entry { self.new.done ≡ entries_after result self.old.done }
     {
         let renewed = self.bind_anew();
         self.answer(renewed)
@@ -176,7 +181,9 @@ impl<R: Net + Clock, S: Datagrams> Link for UdpLink<'_, R, S> {
         ensures cause { FailsWhere result self.old.faults self.new.faults }
         ensures count { self.old.faults ≤ self.new.faults }
         ensures time { self.old.time ≤ self.new.time }
+        ensures failed { OnErr result (self.new.time ≡ self.old.time) }
         ensures events { self.old.done ≤ self.new.done }
+        ensures entry { self.new.done ≡ entries_after result self.old.done }
     {
         let polled = self.receive(into, wait_ms);
         self.answer(polled)
@@ -250,11 +257,12 @@ mod tests {
             address_of(GATEWAY, 3671),
         )?;
         stops.stop();
-        assert!(rt; link.send(b"lost").is_err());
+        // it is read in polls alone
+        assert!(rt; link.send(b"sent").is_ok());
         assert!(rt; !is_quiet(&mut link, 0));
         assert!(rt; link.renew().is_ok());
         assert!(rt; link.socket.local_addr()?.ip() == IpAddr::V4(Ipv4Addr::UNSPECIFIED));
-        assert_eq!(rt; link.faults(), 2);
+        assert_eq!(rt; link.faults(), 1);
         Ok(())
     }
 }

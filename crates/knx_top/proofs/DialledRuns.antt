@@ -42,7 +42,7 @@ caused report old faults since after none cause taken = record {
 
 pub means_over : (project : Installation) (jobs : List Job) (words : List JobWord) (story : Story) (log : List LogEntry) → ArePlanned project jobs words → IsRightOver jobs story log → MeansOver project jobs story log
 means_over project jobs words Untold log planned right = tt
-means_over project jobs words (Recorded r) log planned right = tt
+means_over project jobs words (Recorded clock r) log planned right = tt
 means_over project jobs words (Full start events) log planned right = (devices_mean project jobs words start events log planned right.devices, done_means project jobs words start events log planned right.done)
 
 -- ---- the run

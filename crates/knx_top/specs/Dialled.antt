@@ -23,7 +23,7 @@ use Rattle.knx_top.specs.Ran.{log_in}
 -- only where that runs
 abbrev pub MeansOver : Installation → List Job → Story → List LogEntry → Type 0
 MeansOver project jobs Untold log = Unit {0}
-MeansOver project jobs (Recorded r) log = Unit {0}
+MeansOver project jobs (Recorded clock r) log = Unit {0}
 MeansOver project jobs (Full start events) log = OldStoppedOrNew (RunsMeaning project) jobs start events log × MeansWhereDone project jobs start events log
 
 -- all that is told of a run by so many workers, with these jobs and group turns, by what its link told
@@ -35,7 +35,7 @@ pub record IsToldOver (workers : ℕ) (turns : List GroupTurn) (jobs : List Job)
   -- the client keeps the discipline of the line, and so the headline holds
   pub keeps : Keeps jobs turns story (log_in report)
   pub right : IsRightOver jobs story (log_in report)
-  -- it loses no time, ends its jobs and loses its channels thoroughly, and leaves the open one rightly
+  -- it loses no time, so far as its link's clock allows to say, ends its jobs and loses its channels thoroughly, and leaves the open one rightly
   pub hastens : HastensIn jobs turns (log_in report) story
   pub thorough : IsThoroughOver jobs story (log_in report)
   pub leaves : LeavesOver jobs turns story (log_in report)

@@ -4,5 +4,5 @@ use Rattle.line_model.specs.LinkStory.{Story, Untold, Recorded, Full, PollsNothi
 
 pub polls_nothing : (wait : ℕ) (story : Story) → PollsNothing wait story story
 polls_nothing wait Untold = refl
-polls_nothing wait (Recorded r) = refl
+polls_nothing wait (Recorded clock r) = refl
 polls_nothing wait (Full start events) = (events, refl, record { foreign = Same; in_time = omega arith })

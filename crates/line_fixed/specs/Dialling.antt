@@ -8,6 +8,7 @@ use Rattle.line_model.specs.PortStory as of_port
 use Rattle.line_fixed.specs.declared.link.FixedLink.{FixedLink}
 use Rattle.line_fixed.specs.declared.port.FixedPort.{FixedPort}
 use Rattle.line_fixed.specs.declared.dialer.Address as kept
+use Rattle.line_fixed.specs.Fixed.{clock_by}
 
 pub record Dialling : Type 0 where
   pub link : Option FixedLink
@@ -31,7 +32,7 @@ IsUnusedPort port = (port.items ≡ []) × (port.faults ≡ 0)
 -- what came back told last; nothing, where nothing came back yet
 abbrev pub link_told : Option FixedLink → of_link.Story
 link_told None = of_link.Untold
-link_told (Some link) = of_link.Recorded link.entries
+link_told (Some link) = of_link.Recorded (clock_by link.lasting) link.entries
 
 abbrev pub port_told : Option FixedPort → of_port.PortStory
 port_told None = of_port.Untold

@@ -1,6 +1,6 @@
 -- What links, ports and dialers of fixed data do: which datagram is given next, which calls fail, and what a call leaves. Calls are numbered
 -- from 1; a count stands still at the greatest number of 64 bits.
-use Rattle.std.specs.Prelude.{◌≡◌, ℕ, ◌+◌, ◌<◌, ◌⊎◌, List, ◌∷◌, length, min, take, slice_get, Contains, Option, Some, None, Result, Ok, Err}
+use Rattle.std.specs.Prelude.{◌≡◌, ℕ, ◌<◌, ◌⊎◌, List, [], ◌∷◌, length, min, take, slice_get, Contains, Option, Some, None, Result, Ok, Err}
 use Rattle.std.specs.Option.{option_or}
 use Rattle.knx_model.specs.Outside.{one_more, greatest_count}
 use Rattle.line_model.specs.declared.outside.link.LinkFault.{LinkFault}
@@ -11,6 +11,7 @@ use Rattle.line_model.specs.declared.outside.port.PortFault.{PortFault}
 use Rattle.line_model.specs.declared.outside.port.PortFault.TheVariants as port_fault
 use Rattle.line_model.specs.declared.outside.port.PortPolled.{PortPolled}
 use Rattle.line_model.specs.declared.outside.port.PortPolled.TheVariants as port_answer
+use Rattle.line_model.specs.LinkStory.{Clock, Exact, Running}
 use Rattle.line_model.specs.PortStory as of_port
 use Rattle.line_model.specs.PortStory.{PortItem}
 use Rattle.line_model.specs.Record.{Entry, Got, Quiet, entry, longest_got}
@@ -44,10 +45,21 @@ with_answer (Err why) answered = answered
 abbrev pub next_of : List (List ℕ) → Option (List ℕ) → ℕ → Option (List ℕ)
 next_of gives last answered = option_or (slice_get gives answered) last
 
--- the entry of a poll that brings it: at once, cut off after 512 octets; where there is none, a wait of so many milliseconds
-abbrev pub brought : Option (List ℕ) → ℕ → ℕ → Entry
-brought (Some octets) now wait = entry (Got (take longest_got octets)) now
-brought None now wait = entry Quiet (now + wait)
+-- its clock runs where it is told how long its polls last
+abbrev pub clock_by : List ℕ → Clock
+clock_by [] = Exact
+clock_by (ms ∷ lasting) = Running
+
+-- how many milliseconds a poll lasts: as many as are told of it; else none where a datagram comes, and its wait where none does
+abbrev pub lasts : Option ℕ → Option (List ℕ) → ℕ → ℕ
+lasts (Some ms) next wait = ms
+lasts None (Some octets) wait = 0
+lasts None None wait = wait
+
+-- the entry of a poll that ends then: the datagram that it brings, cut off after 512 octets, or a quiet wait
+abbrev pub brought : Option (List ℕ) → ℕ → Entry
+brought (Some octets) until = entry (Got (take longest_got octets)) until
+brought None until = entry Quiet until
 
 -- and its answer, with the octets of the buffer
 abbrev pub Answers : Polled → List ℕ → Option (List ℕ) → Type 0

@@ -6,6 +6,7 @@ ghost use Rattle.line_model.specs.Dialled.{Address as Told, TakesBack, Tells};
 ghost use Rattle.line_model.specs.LinkStory.{IsNewLink, Recorded as LinkTold};
 ghost use Rattle.line_model.specs.PortStory.{IsNewPort, Recorded as PortTold};
 ghost use Rattle.line_fixed.specs.Dialling.{IsUnusedLink, IsUnusedPort, address_of, handing, link_told, port_told, taking_back};
+ghost use Rattle.line_fixed.specs.Fixed.{clock_by};
 
 use crate::link::FixedLink;
 use crate::port::FixedPort;
@@ -107,7 +108,7 @@ impl Dialer for FixedDialer {
     ghost now = { λ d. record { faults = d.faults; dials = d.dials; given = d.given; link_back = link_told d.link_back; port_back = port_told d.port_back } };
 
     fn dial(&mut self, host: [u8; 4], port: u16) -> Result<FixedLink, DialFailed>
-        ensures fresh { IfOk result (λ l. IsNewLink (LinkTold l.entries)) }
+        ensures fresh { IfOk result (λ l. IsNewLink (LinkTold (clock_by l.lasting) l.entries)) }
         ensures sound { IfOk result (λ l. l.faults ≡ 0) }
         ensures failed { OnErr result (Rose self.old.faults self.new.faults) }
         ensures count { self.old.faults ≤ self.new.faults }
@@ -155,7 +156,7 @@ impl Dialer for FixedDialer {
 
     fn hang(&mut self, line: FixedLink)
         ensures count { TakesBack line.faults self.old.faults self.new.faults }
-        ensures told { link_told self.new.link_back ≡ LinkTold line.entries }
+        ensures told { link_told self.new.link_back ≡ LinkTold (clock_by line.lasting) line.entries }
         ensures given { self.new.given ≡ self.old.given }
         ensures dials { self.new.dials ≡ self.old.dials }
         ensures after { self.new ≡ record self.old { link_back = Some line; faults = taking_back line.faults self.old.faults } }

@@ -77,7 +77,7 @@ impl<L: Link> Link for FailingLink<L> {
         ensures failed { OnErr result (SendsOrNot octets.now (L.story self.old.link) (L.story self.new.link)) }
         ensures cause { FailsWhere result self.old.faults self.new.faults }
         ensures count { self.old.faults ≤ self.new.faults }
-        ensures time { L.clock self.old.link ≤ L.clock self.new.link }
+        ensures time { L.clock self.new.link ≡ L.clock self.old.link }
         ensures events { L.place self.old.link ≤ L.place self.new.link }
         ensures script { L.script self.new.link ≡ L.script self.old.link }
         // the one call fails and isn't passed on; of another that fails the link's count rose
@@ -95,7 +95,7 @@ impl<L: Link> Link for FailingLink<L> {
         ensures failed { OnErr result (RenewsOrNot (L.story self.old.link) (L.story self.new.link)) }
         ensures cause { FailsWhere result self.old.faults self.new.faults }
         ensures count { self.old.faults ≤ self.new.faults }
-        ensures time { L.clock self.old.link ≤ L.clock self.new.link }
+        ensures time { L.clock self.new.link ≡ L.clock self.old.link }
         ensures events { L.place self.old.link ≤ L.place self.new.link }
         ensures script { L.script self.new.link ≡ L.script self.old.link }
         ensures counts { self.new ≡ record self.old { link = self.new.link; calls = one_more self.old.calls; faults = with_fault result self.old.faults } }

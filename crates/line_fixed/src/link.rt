@@ -1,13 +1,13 @@
 //! A link of fixed data.
 
-ghost use Rattle.std.specs.Prelude.{◌≡◌, ◌≤◌, ◌↔◌, ◌+◌, ◌<◌, ℕ, [], Err, IfOk, OnErr, OnOk, length, option_copied};
+ghost use Rattle.std.specs.Prelude.{◌≡◌, ◌≤◌, ◌↔◌, ◌+◌, ◌<◌, ℕ, [], Err, IfOk, OnErr, OnOk, length, option_copied, slice_get};
 ghost use Rattle.knx_model.specs.Outside.{greatest_count, one_more};
 ghost use Rattle.line_model.specs.LinkStory.{IsPlace, IsTime, Recorded, Renews, RenewsOrNot, Sends, SendsOrNot, newest_time};
 ghost use Rattle.line_model.specs.Polled.{FailsWhere, PollsSo};
 ghost use Rattle.line_model.specs.Record.{Put, Renewed, entry};
 ghost use Rattle.line_model.specs.declared.outside.link.LinkFault.TheVariants.{Failed};
 ghost use Rattle.line_fixed.specs.Entries.{told};
-ghost use Rattle.line_fixed.specs.Fixed.{Answers, Fails, brought, next_of, with_answer, with_entry, with_fault};
+ghost use Rattle.line_fixed.specs.Fixed.{Answers, Fails, brought, clock_by, lasts, next_of, with_answer, with_entry, with_fault};
 
 use crate::entries::Entries;
 use crate::item::Item;
@@ -16,14 +16,17 @@ use knx_model::{List, NoMemory, Octets, front};
 use line_model::{Link, LinkFault, Polled};
 use std::alloc::Global;
 
-/// A link that gives its datagrams in order, and then its last one for ever or quiet waits. It takes no time but in a quiet wait. The calls
-/// with the numbers in `fails`, from 1, fail and do nothing else; so does one for which the record has no room.
+/// A link that gives its datagrams in order, and then its last one for ever or quiet waits. It takes no time but in a quiet wait, unless it is told how
+/// long its polls last: then its clock runs. The calls with the numbers in `fails`, from 1, fail and do nothing else; so does one for which the record
+/// has no room.
 #[derive(Drop)]
 pub struct FixedLink {
     alloc: Global,
     pub gives: List<Octets>,
     pub last: Option<Octets>,
     pub fails: List<u64>,
+    /// How many milliseconds its polls last, in turn; those behind the end last as long as they should.
+    pub lasting: List<u32>,
     /// How many polls were answered.
     pub answered: usize,
     /// What was done.
@@ -40,7 +43,7 @@ impl FixedLink {
         last: Option<Octets>,
         fails: List<u64>,
     ) -> FixedLink
-        ensures given { (result.gives ≡ gives) × (result.last ≡ last) × (result.fails ≡ fails) }
+        ensures given { (result.gives ≡ gives) × (result.last ≡ last) × (result.fails ≡ fails) × (result.lasting ≡ []) }
         ensures entries { result.entries ≡ [] }
         ensures counts { (result.answered ≡ 0) × (result.calls ≡ 0) × (result.faults ≡ 0) }
     {
@@ -49,6 +52,7 @@ impl FixedLink {
             gives,
             last,
             fails,
+            lasting: List::new(alloc),
             answered: 0,
             entries: Entries::new(alloc),
             calls: 0,
@@ -75,10 +79,22 @@ impl FixedLink {
         }
     }
 
-    /// How many milliseconds the next poll takes.
-    fn wait_of(&self, wait_ms: u32) -> u32
-        ensures { newest_time self.now.entries + result ≡ (brought (next_of self.now.gives self.now.last self.now.answered) (newest_time self.now.entries) wait_ms).now }
+    /// The same link, whose polls last so many milliseconds, in turn.
+    pub fn with_polls(self, lasting: List<u32>) -> FixedLink
+        ensures { result ≡ record self { lasting = lasting } }
     {
+        let mut link = self;
+        link.lasting = lasting;
+        link
+    }
+
+    /// How many milliseconds the next poll lasts.
+    fn wait_of(&self, wait_ms: u32) -> u32
+        ensures { result ≡ lasts (slice_get self.now.lasting self.now.answered) (next_of self.now.gives self.now.last self.now.answered) wait_ms }
+    {
+        if let Some(ms) = self.lasting.as_slice().get(self.answered) {
+            return *ms;
+        }
         match next_of(self.gives.as_slice(), &self.last, self.answered) {
             Some(_) => 0,
             None => wait_ms,
@@ -92,7 +108,7 @@ fn brought(
     next: Option<&Octets>,
     into: &mut [u8; LONGEST_GOT],
 ) -> Result<(Item, Polled), NoMemory>
-    ensures item { IfOk result (λ r. (now wait : ℕ) → told r.0 ≡ (brought (option_copied next.entry) now wait).what) }
+    ensures item { IfOk result (λ r. (until : ℕ) → told r.0 ≡ (brought (option_copied next.entry) until).what) }
     ensures answer { IfOk result (λ r. Answers r.1 into.new (option_copied next.entry)) }
 {
     match next {
@@ -110,8 +126,9 @@ fn brought(
 impl Link for FixedLink {
     ghost use Rattle.std.specs.Prelude.{length, []};
     ghost use Rattle.line_model.specs.LinkStory.{Recorded, newest_time};
+    ghost use Rattle.line_fixed.specs.Fixed.{clock_by};
 
-    ghost story = { λ l. Recorded l.entries };
+    ghost story = { λ l. Recorded (clock_by l.lasting) l.entries };
 
     ghost script = { λ _. [] };
 
@@ -122,11 +139,11 @@ impl Link for FixedLink {
     ghost faults = { λ l. l.faults };
 
     fn send(&mut self, octets: &[u8]) -> Result<(), LinkFault>
-        ensures sent { OnOk result (Sends octets.now (Recorded self.old.entries) (Recorded self.new.entries)) }
-        ensures failed { OnErr result (SendsOrNot octets.now (Recorded self.old.entries) (Recorded self.new.entries)) }
+        ensures sent { OnOk result (Sends octets.now (Recorded (clock_by self.old.lasting) self.old.entries) (Recorded (clock_by self.new.lasting) self.new.entries)) }
+        ensures failed { OnErr result (SendsOrNot octets.now (Recorded (clock_by self.old.lasting) self.old.entries) (Recorded (clock_by self.new.lasting) self.new.entries)) }
         ensures cause { FailsWhere result self.old.faults self.new.faults }
         ensures count { self.old.faults ≤ self.new.faults }
-        ensures time { newest_time self.old.entries ≤ newest_time self.new.entries }
+        ensures time { newest_time self.new.entries ≡ newest_time self.old.entries }
         ensures events { length self.old.entries ≤ length self.new.entries }
         // a call adds its entry, or fails and adds nothing
         ensures after { self.new ≡ record self.old { calls = one_more self.old.calls; faults = with_fault result self.old.faults; entries = with_entry result (entry (Put octets.now) (newest_time self.old.entries)) self.old.entries } }
@@ -139,11 +156,11 @@ impl Link for FixedLink {
     }
 
     fn renew(&mut self) -> Result<(), LinkFault>
-        ensures renewed { OnOk result (Renews (Recorded self.old.entries) (Recorded self.new.entries)) }
-        ensures failed { OnErr result (RenewsOrNot (Recorded self.old.entries) (Recorded self.new.entries)) }
+        ensures renewed { OnOk result (Renews (Recorded (clock_by self.old.lasting) self.old.entries) (Recorded (clock_by self.new.lasting) self.new.entries)) }
+        ensures failed { OnErr result (RenewsOrNot (Recorded (clock_by self.old.lasting) self.old.entries) (Recorded (clock_by self.new.lasting) self.new.entries)) }
         ensures cause { FailsWhere result self.old.faults self.new.faults }
         ensures count { self.old.faults ≤ self.new.faults }
-        ensures time { newest_time self.old.entries ≤ newest_time self.new.entries }
+        ensures time { newest_time self.new.entries ≡ newest_time self.old.entries }
         ensures events { length self.old.entries ≤ length self.new.entries }
         ensures after { self.new ≡ record self.old { calls = one_more self.old.calls; faults = with_fault result self.old.faults; entries = with_entry result (entry Renewed (newest_time self.old.entries)) self.old.entries } }
         ensures fails { (result ≡ Err Failed) ↔ Fails self.old.fails self.new.calls self.old.entries (newest_time self.old.entries) }
@@ -154,14 +171,14 @@ impl Link for FixedLink {
     }
 
     fn poll(&mut self, into: &mut [u8; LONGEST_GOT], wait_ms: u32) -> Result<Polled, LinkFault>
-        ensures polled { PollsSo result into.new wait_ms (newest_time self.new.entries) (Recorded self.old.entries) (Recorded self.new.entries) }
+        ensures polled { PollsSo result into.new wait_ms (newest_time self.new.entries) (Recorded (clock_by self.old.lasting) self.old.entries) (Recorded (clock_by self.new.lasting) self.new.entries) }
         ensures cause { FailsWhere result self.old.faults self.new.faults }
         ensures count { self.old.faults ≤ self.new.faults }
         ensures time { newest_time self.old.entries ≤ newest_time self.new.entries }
         ensures events { length self.old.entries ≤ length self.new.entries }
         // a call brings the next datagram or a quiet wait, or it fails and brings nothing
-        ensures after { let now = brought (next_of self.old.gives self.old.last self.old.answered) (newest_time self.old.entries) wait_ms in self.new ≡ record self.old { calls = one_more self.old.calls; faults = with_fault result self.old.faults; answered = with_answer result self.old.answered; entries = with_entry result now self.old.entries } }
-        ensures fails { let now = brought (next_of self.old.gives self.old.last self.old.answered) (newest_time self.old.entries) wait_ms in (result ≡ Err Failed) ↔ Fails self.old.fails self.new.calls self.old.entries now.now }
+        ensures after { let next = next_of self.old.gives self.old.last self.old.answered in let now = brought next (newest_time self.old.entries + lasts (slice_get self.old.lasting self.old.answered) next wait_ms) in self.new ≡ record self.old { calls = one_more self.old.calls; faults = with_fault result self.old.faults; answered = with_answer result self.old.answered; entries = with_entry result now self.old.entries } }
+        ensures fails { let next = next_of self.old.gives self.old.last self.old.answered in let now = brought next (newest_time self.old.entries + lasts (slice_get self.old.lasting self.old.answered) next wait_ms) in (result ≡ Err Failed) ↔ Fails self.old.fails self.new.calls self.old.entries now.now }
         ensures answer { IfOk result (λ polled. Answers polled into.new (next_of self.old.gives self.old.last self.old.answered)) }
     {
         let now = self.begin(self.wait_of(wait_ms))?;
@@ -174,14 +191,14 @@ impl Link for FixedLink {
 
     fn now(&self) -> u64
         ensures value { result ≡ newest_time self.now.entries }
-        ensures told { IsTime result (Recorded self.now.entries) }
+        ensures told { IsTime result (Recorded (clock_by self.now.lasting) self.now.entries) }
     {
         self.entries.newest_time()
     }
 
     fn at(&self) -> u64
         ensures value { result ≡ length self.now.entries }
-        ensures told { IsPlace result (Recorded self.now.entries) }
+        ensures told { IsPlace result (Recorded (clock_by self.now.lasting) self.now.entries) }
     {
         self.entries.len()
     }

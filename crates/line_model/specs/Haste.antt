@@ -1,13 +1,13 @@
 -- That a client loses no time (this project's own), by record and log alone. A poll lasts at most 100 ms; a heartbeat that is due is sent before the
 -- second poll after; no time passes while a job that has begun has something to send that can be sent; and the end of the open channel is asked
--- for once, where all is over, after which no new endpoint is taken.
+-- for once, where all is over, after which no new endpoint is taken. What of this is said of time needs an exact clock.
 use Rattle.std.specs.Prelude.{◌≡◌, ℕ, ◌+◌, ◌≤◌, Bool, true, false, ◌&&◌, nat_lt, List, [], ◌∷◌}
 use Rattle.line_model.specs.declared.group.GroupTurn.{GroupTurn}
 use Rattle.line_model.specs.declared.log.LogEntry.{LogEntry}
 use Rattle.line_model.specs.Record.{Item, Quiet, Entry, Placed, entries, is_renewal, is_poll}
 use Rattle.line_model.specs.ClientView.{ClientChannel, Open, channel}
 use Rattle.line_model.specs.Renews.{is_beat_due, to_poll_before}
-use Rattle.line_model.specs.LinkStory.{newest_time}
+use Rattle.line_model.specs.LinkStory.{Clock, Exact, Running, newest_time}
 use Rattle.line_model.specs.Closing.{asks_to_end, is_open}
 use Rattle.line_model.specs.Leaves.{StaysOpen, IsFinished}
 use Rattle.line_model.specs.Log.{Job, log_before}
@@ -62,3 +62,18 @@ pub record LosesNoTime (jobs : List Job) (turns : List GroupTurn) (log : List Lo
 abbrev pub LosesNoTimes : List Job → List GroupTurn → List LogEntry → List Placed → Type 0
 LosesNoTimes jobs turns log [] = Unit {0}
 LosesNoTimes jobs turns log (p ∷ older) = LosesNoTime jobs turns (log_before p.at log) older p × LosesNoTimes jobs turns log older
+
+-- ---- over a link whose clock runs a poll lasts as long as it likes; the order in which the client acts is the same
+
+pub record ActsInOrder (jobs : List Job) (turns : List GroupTurn) (log : List LogEntry) (older : List Placed) (p : Placed) : Type 0 where
+  pub beats : is_poll p.what.what ≡ true → is_beat_overdue (channel (entries older)) (to_poll_before (entries older)) ≡ false
+  pub ends : asks_to_end p.what ≡ true → is_open (channel (entries older)) ≡ true → IsFinished jobs turns log × StaysOpen (entries older)
+  pub seeks : is_renewal p.what.what ≡ true → StaysOpen (entries older)
+
+abbrev pub ActInOrder : List Job → List GroupTurn → List LogEntry → List Placed → Type 0
+ActInOrder jobs turns log [] = Unit {0}
+ActInOrder jobs turns log (p ∷ older) = ActsInOrder jobs turns (log_before p.at log) older p × ActInOrder jobs turns log older
+
+abbrev pub HastenBy : Clock → List Job → List GroupTurn → List LogEntry → List Placed → Type 0
+HastenBy Exact jobs turns log places = LosesNoTimes jobs turns log places
+HastenBy Running jobs turns log places = ActInOrder jobs turns log places

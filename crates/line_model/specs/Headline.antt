@@ -44,7 +44,7 @@ pub record KeepsFull (jobs : List Job) (turns : List GroupTurn) (start : World) 
 
 abbrev pub Keeps : List Job → List GroupTurn → Story → List LogEntry → Type 0
 Keeps jobs turns Untold log = Unit {0}
-Keeps jobs turns (Recorded r) log = IsDisciplined jobs turns (length r) (counted r) log
+Keeps jobs turns (Recorded clock r) log = IsDisciplined jobs turns (length r) (counted r) log
 Keeps jobs turns (Full start events) log = KeepsFull jobs turns start events log
 
 -- ---- the jobs

@@ -1,7 +1,8 @@
 -- What a link tells of itself: nothing, as a socket; its record alone; or its start and its events, off which the record is read. And what a
 -- sending, a new endpoint and a poll may do to that. A sending adds itself; a poll adds legal events that are not the client's, and then the
 -- datagram that is got, or a quiet wait. A call that fails may have added its own sending, or legal events without a datagram. Where a link
--- tells something, time moves in polls alone.
+-- tells something, its clock is read in polls alone, and never runs back: a sending has the time that was told before it. With an exact clock, as
+-- that of events is, a quiet poll lasts just its wait and no poll lasts longer; with one that runs a poll lasts as long as it likes.
 use Rattle.std.specs.Prelude.{◌≡◌, ℕ, ◌+◌, ◌<◌, ◌≤◌, ◌⊎◌, nat_lt, Bool, true, false, List, [], ◌∷◌, ◌++◌, length, Option, Some, None}
 use Rattle.line_model.specs.Tunnel.{Commissions}
 use Rattle.line_model.specs.World.{World, Event, Send, From, Renew, Down, Pass, now, replay}
@@ -9,21 +10,30 @@ use Rattle.line_model.specs.Legal.{MayHappen}
 use Rattle.line_model.specs.Fresh.{IsFresh}
 use Rattle.line_model.specs.Record.{Item, Put, Renewed, Got, Quiet, Entry, entry, item_at, record_of, Placed, placed, counted}
 
+pub data Clock : Type 0 where
+  Exact : Clock
+  Running : Clock
+
 pub data Story : Type 0 where
   Untold : Story
-  Recorded : List Entry → Story
+  Recorded : Clock → List Entry → Story
   Full : World → List Event → Story
+
+abbrev pub clock_of : Story → Clock
+clock_of Untold = Running
+clock_of (Recorded clock r) = clock
+clock_of (Full start events) = Exact
 
 -- ---- what it says of record and places, where it tells them
 
 abbrev pub record_in : Story → Option (List Entry)
 record_in Untold = None
-record_in (Recorded r) = Some r
+record_in (Recorded clock r) = Some r
 record_in (Full start events) = Some (record_of start events)
 
 abbrev pub places_in : Story → Option (List Placed)
 places_in Untold = None
-places_in (Recorded r) = Some (counted r)
+places_in (Recorded clock r) = Some (counted r)
 places_in (Full start events) = Some (placed start events)
 
 -- ---- its time and its place: how many events there were or, where the record alone is told, how many entries
@@ -34,26 +44,26 @@ newest_time (x ∷ r) = x.now
 
 -- both exactly: a link that tells something fails before either is greater than a number of 64 bits
 abbrev pub IsTime : ℕ → Story → Type 0
-IsTime clock Untold = Unit {0}
-IsTime clock (Recorded r) = clock ≡ newest_time r
-IsTime clock (Full start events) = clock ≡ now (replay start events)
+IsTime time Untold = Unit {0}
+IsTime time (Recorded clock r) = time ≡ newest_time r
+IsTime time (Full start events) = time ≡ now (replay start events)
 
 abbrev pub IsPlace : ℕ → Story → Type 0
 IsPlace place Untold = Unit {0}
-IsPlace place (Recorded r) = place ≡ length r
+IsPlace place (Recorded clock r) = place ≡ length r
 IsPlace place (Full start events) = place ≡ length events
 
 -- nothing was done on it, and its world is fresh
 abbrev pub IsNewLink : Story → Type 0
 IsNewLink Untold = Unit {0}
-IsNewLink (Recorded r) = r ≡ []
+IsNewLink (Recorded clock r) = r ≡ []
 IsNewLink (Full start events) = (events ≡ []) × IsFresh start
 
 -- ---- a sending and a new endpoint: one entry, with the time that was told before
 
 abbrev pub Adds : Item → Event → Story → Story → Type 0
 Adds what e before Untold = before ≡ Untold
-Adds what e before (Recorded r) = (older : List Entry) × (before ≡ Recorded older) × (r ≡ entry what (newest_time older) ∷ older)
+Adds what e before (Recorded clock r) = (older : List Entry) × (before ≡ Recorded clock older) × (r ≡ entry what (newest_time older) ∷ older)
 Adds what e before (Full start events) = (older : List Event) × (before ≡ Full start older) × (events ≡ e ∷ older)
 
 abbrev pub Sends : List ℕ → Story → Story → Type 0
@@ -110,24 +120,29 @@ abbrev pub AreWaits : ℕ → List Entry → Type 0
 AreWaits since [] = Unit {0}
 AreWaits since (x ∷ waits) = (x.what ≡ Quiet) × (last_wait since waits < x.now) × AreWaits since waits
 
--- a datagram comes within the wait, and a quiet poll ends with it
+-- with an exact clock: a datagram comes within the wait, and a quiet poll ends with it
 abbrev pub EndsAt : Item → ℕ → ℕ → ℕ → Type 0
 EndsAt Quiet wait since until = until ≡ since + wait
 EndsAt what wait since until = until ≤ since + wait
 
-pub record PollsRecord (what : Item) (wait clock : ℕ) (before after : List Entry) : Type 0 where
+-- with one that runs it ends at any time, and is one entry
+abbrev pub EndsBy : Clock → Item → ℕ → ℕ → ℕ → List Entry → Type 0
+EndsBy Exact what wait since until waits = EndsAt what wait since until
+EndsBy Running what wait since until waits = waits ≡ []
+
+pub record PollsRecord (clock : Clock) (what : Item) (wait until : ℕ) (before after : List Entry) : Type 0 where
   pub waits : List Entry
   pub are : AreWaits (newest_time before) waits
-  pub later : last_wait (newest_time before) waits ≤ clock
-  pub ends : EndsAt what wait (newest_time before) clock
-  pub all : after ≡ entry what clock ∷ (waits ++ before)
+  pub later : last_wait (newest_time before) waits ≤ until
+  pub ends : EndsBy clock what wait (newest_time before) until waits
+  pub all : after ≡ entry what until ∷ (waits ++ before)
 
 -- ---- a poll
 
 abbrev pub Polls : Item → ℕ → ℕ → Story → Story → Type 0
-Polls what wait clock before Untold = before ≡ Untold
-Polls what wait clock before (Recorded r) = (older : List Entry) × (before ≡ Recorded older) × PollsRecord what wait clock older r
-Polls what wait clock before (Full start events) = (older : List Event) × (before ≡ Full start older) × PollsFull what wait start older events
+Polls what wait until before Untold = before ≡ Untold
+Polls what wait until before (Recorded clock r) = (older : List Entry) × (before ≡ Recorded clock older) × PollsRecord clock what wait until older r
+Polls what wait until before (Full start events) = (older : List Event) × (before ≡ Full start older) × PollsFull what wait start older events
 
 -- one that fails: legal events may have come within the wait, and no datagram
 pub record FailsFull (wait : ℕ) (start : World) (before after : List Event) : Type 0 where
@@ -136,5 +151,5 @@ pub record FailsFull (wait : ℕ) (start : World) (before after : List Event) : 
 
 abbrev pub PollsNothing : ℕ → Story → Story → Type 0
 PollsNothing wait before Untold = before ≡ Untold
-PollsNothing wait before (Recorded r) = before ≡ Recorded r
+PollsNothing wait before (Recorded clock r) = before ≡ Recorded clock r
 PollsNothing wait before (Full start events) = (older : List Event) × (before ≡ Full start older) × FailsFull wait start older events

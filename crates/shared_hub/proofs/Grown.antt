@@ -66,7 +66,7 @@ module _ (notices : List Notice) where
   -- what holds of the places that were holds of those that are told now
   told_more : (P Q : List Placed → Type 0) (s t : Story) → GoesOn s t → WhereTold P s → ((old new : List Placed) → Added (place_of s) (place_of t) old new → P old → Q new) → WhereTold Q t
   told_more P Q Untold t goes h more places e = absurd (let z : None ≡ Some places = subst (λ (x : Story). places_in x ≡ Some places) goes e in cc)
-  told_more P Q (Recorded r) t goes h more places e =
+  told_more P Q (Recorded clock r) t goes h more places e =
       let is : counted (goes.0 ++ r) ≡ places = some_is (counted (goes.0 ++ r)) places (subst (λ (x : Story). places_in x ≡ Some places) goes.1 e) in
       let a : Added (length r) (place_of t) (counted r) (counted (goes.0 ++ r)) = subst (λ (x : Story). Added (length r) (place_of x) (counted r) (counted (goes.0 ++ r))) (sym goes.1) (counted_more goes.0 r) in
       subst Q is (more (counted r) (counted (goes.0 ++ r)) a (h (counted r) refl))

@@ -27,7 +27,7 @@ module _ (fault then : Option HubFault) (m n : ℕ) (before after : List Indicat
 
   by_story : (s t : Story) → GoesOn s t → HearsSo heard s t → HeardIn fault m before (record_in s) → HeardIn then n after (record_in t)
   by_story Untold t goes hears told = subst (λ t. HeardIn then n after (record_in t)) (sym goes) tt
-  by_story (Recorded r) t goes hears told =
+  by_story (Recorded clock r) t goes hears told =
       let new : List Entry = goes.0 ++ r in
       let e : indications (entries (counted new)) ≡ cons_option heard (indications (entries (counted r))) = hears (counted r) (counted new) refl (ap places_in goes.1) in
       subst (λ t. HeardIn then n after (record_in t)) (sym goes.1) (by_record r new (sym (ap indications (entries_counted new)) ∙ (e ∙ ap (λ x. cons_option heard (indications x)) (entries_counted r))) told)
@@ -83,7 +83,7 @@ none_told (Some why) = broken_off why 0 [] [] none_yet
 
 pub new_hears_none : (fault : Option HubFault) (s : Story) → IsNewLink s → HeardIn fault 0 [] (record_in s)
 new_hears_none fault Untold new = tt
-new_hears_none fault (Recorded r) new = subst (λ r. HeardIn fault 0 [] (Some r)) (sym new) (none_told fault)
+new_hears_none fault (Recorded clock r) new = subst (λ r. HeardIn fault 0 [] (Some r)) (sym new) (none_told fault)
 new_hears_none fault (Full start events) new = subst (λ es. HeardIn fault 0 [] (record_in (Full start es))) (sym new.0) (none_told fault)
 
 -- what was kept of it, and the rest is missed

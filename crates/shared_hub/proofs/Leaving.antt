@@ -316,7 +316,7 @@ closing_rightly hub s c done all are places e = record {
 
 leaves_over : (all : List Job) (turns : List GroupTurn) (s : Story) (log : List LogEntry) → WhereTold (LeavesRightly all turns log) s → LeavesOver all turns s log
 leaves_over all turns Untold log h = tt
-leaves_over all turns (Recorded r) log h = h (counted r) refl
+leaves_over all turns (Recorded clock r) log h = h (counted r) refl
 leaves_over all turns (Full start events) log h = h (placed start events) refl
 
 pub through_leaves : {L : Type 0} (hub : Seen L) (s : Story) → GoesThrough hub s → (all : List Job) → AreJobsOf hub.devices all → LeavesOver all hub.turns s hub.log

@@ -8,9 +8,9 @@ use Rattle.line_model.specs.declared.group.Indication.{Indication}
 use Rattle.line_model.specs.declared.log.LogEntry.{LogEntry}
 use Rattle.line_model.specs.declared.log.Report.{Report}
 use Rattle.line_model.specs.Headline.{IsDisciplined, KeepsFull, Keeps, IsGoodJob}
-use Rattle.line_model.specs.Haste.{LosesNoTimes}
+use Rattle.line_model.specs.Haste.{HastenBy}
 use Rattle.line_model.specs.Leaves.{StaysOpen, since_last, LeavesRightly}
-use Rattle.line_model.specs.LinkStory.{Story, Untold, Recorded, Full, IsNewLink, record_in, places_in}
+use Rattle.line_model.specs.LinkStory.{Story, Untold, Recorded, Full, Clock, Exact, Running, clock_of, IsNewLink, record_in, places_in}
 use Rattle.line_model.specs.Log.{Job, IsLog, OneDownloaderPerDevice, TakenInOrder, latest}
 use Rattle.line_model.specs.Record.{Placed, entries, placed, counted}
 use Rattle.line_law.specs.Safe.{IsSafe, KeepsSafe, EverySafeInterleaving}
@@ -32,7 +32,7 @@ disciplined jobs turns = record { form = tt; alone = tt; truly = tt; renews = tt
 
 new_keeps : (jobs : List Job) (turns : List GroupTurn) (s : Story) → IsNewLink s → Keeps jobs turns s []
 new_keeps jobs turns Untold new = tt
-new_keeps jobs turns (Recorded r) new = subst (λ r. IsDisciplined jobs turns (length r) (counted r) []) (sym new) (disciplined jobs turns)
+new_keeps jobs turns (Recorded clock r) new = subst (λ r. IsDisciplined jobs turns (length r) (counted r) []) (sym new) (disciplined jobs turns)
 new_keeps jobs turns (Full start events) new = subst (λ es. KeepsFull jobs turns start es []) (sym new.0) (record { fresh = new.1; legal = tt; disciplined = disciplined jobs turns })
 
 abbrev nothing : (jobs : List Job) (turns : List GroupTurn) → IsSafe jobs turns 0 [] []
@@ -40,7 +40,7 @@ nothing jobs turns = record { form = tt; alone = tt; truly = tt; renews = tt; se
 
 new_safe : (jobs : List Job) (turns : List GroupTurn) (s : Story) → IsNewLink s → IsSafeOver jobs turns s []
 new_safe jobs turns Untold new = tt
-new_safe jobs turns (Recorded r) new = subst (λ r. IsSafe jobs turns (length r) (counted r) []) (sym new) (nothing jobs turns)
+new_safe jobs turns (Recorded clock r) new = subst (λ r. IsSafe jobs turns (length r) (counted r) []) (sym new) (nothing jobs turns)
 new_safe jobs turns (Full start events) new = subst (λ es. KeepsSafe jobs turns start es []) (sym new.0) (record { fresh = new.1; legal = tt; safe = nothing jobs turns })
 
 abbrev ends_nothing : (jobs : List Job) → IsThorough jobs [] []
@@ -48,16 +48,20 @@ ends_nothing jobs = record { ends = tt; begins = tt; parts = tt }
 
 new_thorough : (jobs : List Job) (s : Story) → IsNewLink s → IsThoroughOver jobs s []
 new_thorough jobs Untold new = tt
-new_thorough jobs (Recorded r) new = subst (λ r. IsThorough jobs (counted r) []) (sym new) (ends_nothing jobs)
+new_thorough jobs (Recorded clock r) new = subst (λ r. IsThorough jobs (counted r) []) (sym new) (ends_nothing jobs)
 new_thorough jobs (Full start events) new = subst (λ es. IsThorough jobs (placed start es) []) (sym new.0) (ends_nothing jobs)
 
 no_places : (s : Story) (places : List Placed) → IsNewLink s → places_in s ≡ Some places → places ≡ []
 no_places Untold places new e = absurd (let z : None ≡ Some places = e in cc)
-no_places (Recorded r) places new e = sym (some_is (counted r) places e) ∙ ap counted new
+no_places (Recorded clock r) places new e = sym (some_is (counted r) places e) ∙ ap counted new
 no_places (Full start events) places new e = sym (some_is (placed start events) places e) ∙ ap (placed start) new.0
 
+loses_none : (clock : Clock) (jobs : List Job) (turns : List GroupTurn) → HastenBy clock jobs turns [] []
+loses_none Exact jobs turns = tt
+loses_none Running jobs turns = tt
+
 new_hastens : (jobs : List Job) (turns : List GroupTurn) (s : Story) → IsNewLink s → HastensIn jobs turns [] s
-new_hastens jobs turns s new places e = subst (LosesNoTimes jobs turns []) (sym (no_places s places new e)) tt
+new_hastens jobs turns s new places e = subst (HastenBy (clock_of s) jobs turns []) (sym (no_places s places new e)) (loses_none (clock_of s) jobs turns)
 
 -- nothing was sent that asks anything to end
 leaves_nothing : (jobs : List Job) (turns : List GroupTurn) → LeavesRightly jobs turns [] []
@@ -65,7 +69,7 @@ leaves_nothing jobs turns = record { unfinished = λ n. tt; finished = λ f. rec
 
 new_leaves : (jobs : List Job) (turns : List GroupTurn) (s : Story) → IsNewLink s → LeavesOver jobs turns s []
 new_leaves jobs turns Untold new = tt
-new_leaves jobs turns (Recorded r) new = subst (λ r. LeavesRightly jobs turns [] (counted r)) (sym new) (leaves_nothing jobs turns)
+new_leaves jobs turns (Recorded clock r) new = subst (λ r. LeavesRightly jobs turns [] (counted r)) (sym new) (leaves_nothing jobs turns)
 new_leaves jobs turns (Full start events) new = subst (λ es. LeavesRightly jobs turns [] (placed start es)) (sym new.0) (leaves_nothing jobs turns)
 
 pub new_goes_through : {L : Type 0} (hub : Seen L) (s : Story) → IsNewLink s → hub.closing ≡ None → hub.log ≡ [] → GoesThrough hub s
@@ -78,12 +82,12 @@ new_goes_through hub s new unbegun empty = record {
 
 new_right : EverySafeInterleaving → (jobs : List Job) (s : Story) → AllByRecursion IsGoodJob jobs → IsNewLink s → IsRightOver jobs s []
 new_right law jobs Untold good new = tt
-new_right law jobs (Recorded r) good new = tt
+new_right law jobs (Recorded clock r) good new = tt
 new_right law jobs (Full start events) good new = law jobs [] start events [] good (new_safe jobs [] (Full start events) new)
 
 new_drops_none : (s : Story) → IsNewLink s → DropsIn 0 (record_in s)
 new_drops_none Untold new = tt
-new_drops_none (Recorded r) new = subst (λ r. DropsIn 0 (Some r)) (sym new) refl
+new_drops_none (Recorded clock r) new = subst (λ r. DropsIn 0 (Some r)) (sym new) refl
 new_drops_none (Full start events) new = subst (λ es. DropsIn 0 (record_in (Full start es))) (sym new.0) refl
 
 -- want of memory for the hub

@@ -135,7 +135,7 @@ report_watched tasks story devices log p before old new runs shows tells w = by_
 -- its place has been
 pub place_been : (at place : ℕ) (story : Story) → at ≡ place → IsPlace place story → WhereTold (λ places. at ≤ place_of story) story
 place_been at place NoRecord is p places e = absurd (let z : None ≡ Some places = e in cc)
-place_been at place (Recorded r) is p places e = omega (arith, is, p)
+place_been at place (Recorded clock r) is p places e = omega (arith, is, p)
 place_been at place (Full start events) is p places e = omega (arith, is, p)
 
 -- ---- the end

@@ -23,7 +23,7 @@ use Rattle.tunnel_link.proofs.Places.{added_of}
 
 goes_up : (s t : Story) (old : List Placed) → GoesOn s t → places_in s ≡ Some old → place_of s ≤ place_of t
 goes_up Untold t old g p = absurd (cc)
-goes_up (Recorded r) t old g p = rw g.1 (let h = length-append g.0 r in omega arith)
+goes_up (Recorded clock r) t old g p = rw g.1 (let h = length-append g.0 r in omega arith)
 goes_up (Full start events) t old g p = rw g.1 (let h = length-append g.0 events in omega arith)
 
 above_more : (m n : ℕ) (l : List Placed) → m ≤ n → IsAbove n l → IsAbove m l

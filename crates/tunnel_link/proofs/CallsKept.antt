@@ -24,7 +24,7 @@ use Rattle.tunnel_link.proofs.Stories.{sends_goes, sends_or_goes}
 
 pub time_is : (now : ℕ) (story : Story) (old : List Placed) → Keeps story → IsTime now story → places_in story ≡ Some old → now ≡ newest_time (entries old)
 time_is now Untold old k t p = absurd (cc)
-time_is now (Recorded r) old k t p = t ∙ sym (newest_counted r) ∙ ap (λ (l : List Placed). newest_time (entries l)) (some_is (counted r) old p)
+time_is now (Recorded clock r) old k t p = t ∙ sym (newest_counted r) ∙ ap (λ (l : List Placed). newest_time (entries l)) (some_is (counted r) old p)
 time_is now (Full start events) old k t p = t ∙ sym (newest_is_now start events k.fresh) ∙ ap (λ (l : List Placed). newest_time (entries l)) (some_is (placed start events) old p)
 
 module _ (k : Known) (before : Story) (all : KeepsAll k before) (calm : k.fault ≡ None) where

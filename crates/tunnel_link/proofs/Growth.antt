@@ -6,7 +6,7 @@ use Rattle.line_model.specs.World.{World, Event, Send, Renew, now, step, replay}
 use Rattle.line_model.specs.Fresh.{IsFresh}
 use Rattle.line_model.specs.Record.{Item, Put, Renewed, Got, Quiet, Entry, entry, is_poll, item_at, Placed, placed, counted, entries}
 use Rattle.line_model.specs.LinkStory as told
-use Rattle.line_model.specs.LinkStory.{Story, Untold, Recorded, Full, places_in, newest_time, IsTime, is_foreign, Same, More, AreWaits, last_wait, EndsAt, PollsRecord, PollsFull, PollsNothing, Polls}
+use Rattle.line_model.specs.LinkStory.{Story, Untold, Recorded, Full, Clock, Exact, Running, clock_of, places_in, newest_time, IsTime, is_foreign, Same, More, AreWaits, last_wait, EndsAt, EndsBy, PollsRecord, PollsFull, PollsNothing, Polls}
 use Rattle.tunnel_link.specs.Goes.{Keeps}
 use Rattle.tunnel_link.specs.Adds.{place_of}
 use Rattle.tunnel_link.proofs.Ended.{ends_full}
@@ -59,7 +59,7 @@ full_more what e is start older old fresh h =
 
 pub adds_more : (what : Item) (e : Event) → IsEvent what e → (before after : Story) (old : List Placed) → Keeps before → told.Adds what e before after → places_in before ≡ Some old → OneMore what before after old
 adds_more what e is before Untold old k h p = absurd (let g : (places_in before ≡ None) = rw h refl in cc)
-adds_more what e is before (Recorded r) old k h p =
+adds_more what e is before (Recorded clock r) old k h p =
     let same : (counted h.0 ≡ old) = some_is (counted h.0) old (let g : (places_in before ≡ Some (counted h.0)) = rw h.1 refl in sym g ∙ p) in
     record {
       told = rw h.2 (ap Some (recorded_more what h.0 old same));
@@ -143,33 +143,42 @@ on_upto (x ∷ ws) older = (omega arith, upto_more (length (ws ++ older)) (suc (
 
 -- ---- a poll
 
-pub record Polling (what : Item) (wait clock : ℕ) (before after : Story) (old : List Placed) : Type 0 where
+pub record Polling (what : Item) (wait until : ℕ) (before after : Story) (old : List Placed) : Type 0 where
   pub waited : List Placed
-  pub waits : Waits (newest_time (entries old)) clock (place_of before) (place_of after) old waited
-  pub told : places_in after ≡ Some (record { at = place_of after; what = entry what clock } ∷ waited)
-  pub ends : EndsAt what wait (newest_time (entries old)) clock
+  pub waits : Waits (newest_time (entries old)) until (place_of before) (place_of after) old waited
+  pub told : places_in after ≡ Some (record { at = place_of after; what = entry what until } ∷ waited)
+  pub ends : EndsBy (clock_of before) what wait (newest_time (entries old)) until (entries waits.waits)
   pub up : place_of before < place_of after
 
-pub ends_in_time : (what : Item) (wait since until : ℕ) → EndsAt what wait since until → until ≤ since + wait
+ends_in_time : (what : Item) (wait since until : ℕ) → EndsAt what wait since until → until ≤ since + wait
 ends_in_time (Put octets) wait since until h = h
 ends_in_time Renewed wait since until h = h
 ends_in_time (Got octets) wait since until h = h
 ends_in_time Quiet wait since until h = omega (arith, h)
 
-record_polls : (what : Item) (wait clock : ℕ) (older r : List Entry) → PollsRecord what wait clock older r → Polling what wait clock (Recorded older) (Recorded r) (counted older)
-record_polls what wait clock older r p = record {
+-- with an exact clock it ends in time; and into a wait that is longer nothing fell
+pub exact_in_time : (clock : Clock) (what : Item) (wait since until : ℕ) (ws : List Entry) → EndsBy clock what wait since until ws → clock ≡ Exact → until ≤ since + wait
+exact_in_time Exact what wait since until ws ends e = ends_in_time what wait since until ends
+exact_in_time Running what wait since until ws ends e = absurd (cc)
+
+pub waits_in_time : (clock : Clock) (what : Item) (wait since until : ℕ) (ws : List Entry) → EndsBy clock what wait since until ws → last_wait since ws ≤ until → last_wait since ws ≤ since + wait
+waits_in_time Exact what wait since until ws ends later = let e = ends_in_time what wait since until ends in omega (arith, e, later)
+waits_in_time Running what wait since until ws ends later = rw ends (omega arith)
+
+record_polls : (clock : Clock) (what : Item) (wait until : ℕ) (older r : List Entry) → PollsRecord clock what wait until older r → Polling what wait until (Recorded clock older) (Recorded clock r) (counted older)
+record_polls clock what wait until older r p = record {
   waited = counted (p.waits ++ older);
-  waits = rw (newest_counted older) (record {
+  waits = record {
     waits = counted_on older p.waits;
     all = counted_append p.waits older;
-    times = rw (entries_on p.waits older) p.are;
-    later = rw (entries_on p.waits older) p.later;
+    times = rw (newest_counted older, entries_on p.waits older) p.are;
+    later = rw (newest_counted older, entries_on p.waits older) p.later;
     above = on_above p.waits older;
     upto = upto_more (length (p.waits ++ older)) (length r) (counted_on older p.waits) (rw p.all (omega arith)) (on_upto p.waits older);
     up = rw p.all (let h = length-append p.waits older in omega arith);
-  });
+  };
   told = rw p.all refl;
-  ends = rw (newest_counted older) p.ends;
+  ends = rw (newest_counted older, entries_on p.waits older) p.ends;
   up = rw p.all (let h = length-append p.waits older in omega arith);
 }
 
@@ -180,15 +189,15 @@ full_polls what wait start older events fresh poll p =
     let falls : (now (replay start p.events) ≤ now (replay start (p.last ∷ p.events))) = never_falls (replay start p.events) p.last in
     subst (λ (es : List Event). Polling what wait (now (replay start es)) (Full start older) (Full start es) (placed start older)) (sym p.all) (record {
       waited = placed start p.events;
-      waits = rw (newest_is_now start older fresh) (record {
+      waits = record {
         waits = f.waits;
         all = f.all;
-        times = f.times;
-        later = let h = f.later in omega arith;
+        times = rw (newest_is_now start older fresh) f.times;
+        later = rw (newest_is_now start older fresh) (let h = f.later in omega arith);
         above = f.above;
         upto = upto_more (length p.events) (suc (length p.events)) f.waits (omega arith) f.upto;
         up = let h = f.up in omega arith;
-      });
+      };
       told = rw p.brings refl;
       ends = rw (newest_is_now start older fresh) (subst (λ (es : List Event). EndsAt what wait (now (replay start older)) (now (replay start es))) p.all (ends_full what wait (now (replay start older)) (now (replay start events)) p.last poll p.ends));
       up = let h = f.up in omega arith;
@@ -197,19 +206,19 @@ full_polls what wait start older events fresh poll p =
 pub same_places : (s : Story) (places old : List Placed) → places_in s ≡ Some places → places_in s ≡ Some old → places ≡ old
 same_places s places old h p = some_is places old (sym h ∙ p)
 
-pub polls_more : (what : Item) (wait clock : ℕ) (before after : Story) (old : List Placed) → is_poll what ≡ true → Keeps before → Polls what wait clock before after → IsTime clock after → places_in before ≡ Some old
-    → Polling what wait clock before after old
-polls_more what wait clock before Untold old poll k h t p = absurd (let g : (places_in before ≡ None) = rw h refl in cc)
-polls_more what wait clock before (Recorded r) old poll k h t p =
+pub polls_more : (what : Item) (wait until : ℕ) (before after : Story) (old : List Placed) → is_poll what ≡ true → Keeps before → Polls what wait until before after → IsTime until after → places_in before ≡ Some old
+    → Polling what wait until before after old
+polls_more what wait until before Untold old poll k h t p = absurd (let g : (places_in before ≡ None) = rw h refl in cc)
+polls_more what wait until before (Recorded clock r) old poll k h t p =
     let same : (counted h.0 ≡ old) = same_places before (counted h.0) old (rw h.1 refl) p in
-    subst (λ (s : Story). Polling what wait clock s (Recorded r) old) (sym h.1)
-    (subst (λ (l : List Placed). Polling what wait clock (Recorded h.0) (Recorded r) l) same (record_polls what wait clock h.0 r h.2))
-polls_more what wait clock before (Full start events) old poll k h t p =
+    subst (λ (s : Story). Polling what wait until s (Recorded clock r) old) (sym h.1)
+    (subst (λ (l : List Placed). Polling what wait until (Recorded clock h.0) (Recorded clock r) l) same (record_polls clock what wait until h.0 r h.2))
+polls_more what wait until before (Full start events) old poll k h t p =
     let same : (placed start h.0 ≡ old) = same_places before (placed start h.0) old (rw h.1 refl) p in
     let kept : Keeps (Full start h.0) = subst Keeps h.1 k in
-    let g : Polling what wait clock (Full start h.0) (Full start events) (placed start h.0) = subst (λ (n : ℕ). Polling what wait n (Full start h.0) (Full start events) (placed start h.0)) (sym t) (full_polls what wait start h.0 events kept.fresh poll h.2) in
-    subst (λ (s : Story). Polling what wait clock s (Full start events) old) (sym h.1)
-    (subst (λ (l : List Placed). Polling what wait clock (Full start h.0) (Full start events) l) same g)
+    let g : Polling what wait until (Full start h.0) (Full start events) (placed start h.0) = subst (λ (n : ℕ). Polling what wait n (Full start h.0) (Full start events) (placed start h.0)) (sym t) (full_polls what wait start h.0 events kept.fresh poll h.2) in
+    subst (λ (s : Story). Polling what wait until s (Full start events) old) (sym h.1)
+    (subst (λ (l : List Placed). Polling what wait until (Full start h.0) (Full start events) l) same g)
 
 -- ---- a poll that fails
 
@@ -222,7 +231,7 @@ pub record Failing (wait : ℕ) (before after : Story) (old : List Placed) : Typ
 
 pub fails_more : (wait : ℕ) (before after : Story) (old : List Placed) → Keeps before → PollsNothing wait before after → places_in before ≡ Some old → Failing wait before after old
 fails_more wait before Untold old k h p = absurd (let g : (places_in before ≡ None) = rw h refl in cc)
-fails_more wait before (Recorded r) old k h p = record {
+fails_more wait before (Recorded clock r) old k h p = record {
   waited = old;
   until = newest_time (entries old);
   waits = record { waits = []; all = refl; times = tt; later = omega arith; above = tt; upto = tt; up = rw h (omega arith) };

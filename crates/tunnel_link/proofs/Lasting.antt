@@ -3,7 +3,7 @@ use Rattle.std.proofs.Common.{◌≡◌, inl, inr, ℕ, ◌+◌, ◌<◌, ◌≤
 use Rattle.std.specs.Prelude.{IfSome, OnOk, min}
 use Rattle.line_model.specs.declared.fault.HubFault.{HubFault}
 use Rattle.line_model.specs.Record.{Put, entry, Placed, entries}
-use Rattle.line_model.specs.LinkStory.{Story, places_in, newest_time, IsTime}
+use Rattle.line_model.specs.LinkStory.{Story, clock_of, places_in, newest_time, IsTime}
 use Rattle.line_model.specs.Waiting.{PollEnds}
 use Rattle.tunnel_link.specs.declared.came.Came.{Came}
 use Rattle.tunnel_link.specs.declared.known.Known.{Known}
@@ -25,7 +25,7 @@ isnt_err came fault result is fails = let isnt : Ok came ≡ Err fault = sym is 
 
 module _ (result : Result Came HubFault) (came : Came) (is : result ≡ Ok came) (wait : ℕ) (k new : Known) (before after : Story) (legal : Keeps before) (old : List Placed) (told : places_in before ≡ Some old) where
   abbrev Lasted : Type 0
-  Lasted = Grows (PollsFor wait) (place_of before) (place_of after) old after
+  Lasted = Grows (PollsFor (clock_of before) wait) (place_of before) (place_of after) old after
 
   listening : Listening result wait k new before after → Lasted
   listening l = by_answer l.answer.sends l.answers
@@ -78,10 +78,10 @@ module _ (result : Result Came HubFault) (came : Came) (is : result ≡ Ok came)
 
 -- the whole of a poll that nothing is late for
 pub poll_lasts : (result : Result Came HubFault) (longest wait now : ℕ) (k new : Known) (before after : Story) → KeepsAll k before → k.fault ≡ None → ListensSo result wait k new before after → IsTime now before → wait ≤ min longest 100
-    → IfSome (next_due k) (λ time. now < time → now + wait ≤ time) → now + wait ≤ last_time → PollEnds (min longest 100) (λ time. next_due k ≡ Some time) now wait → HasActed k before → OnOk result (Growing (LastsRightly longest) before after)
+    → IfSome (next_due k) (λ time. now < time → now + wait ≤ time) → now + wait ≤ last_time → PollEnds (min longest 100) (λ time. next_due k ≡ Some time) now wait → HasActed k before → OnOk result (Growing (LastsRightly (clock_of before) longest) before after)
 poll_lasts (Err fault) longest wait now k new before after all calm l t most in_time in_range ends acted = tt
 poll_lasts (Ok came) longest wait now k new before after all calm l t most in_time in_range ends acted = λ old told.
-    let x : Grows (PollsFor wait) (place_of before) (place_of after) old after = lasted (Ok came) came refl wait k new before after all.legal old told l in
+    let x : Grows (PollsFor (clock_of before) wait) (place_of before) (place_of after) old after = lasted (Ok came) came refl wait k new before after all.legal old told l in
     let same : (now ≡ newest_time (entries old)) = time_is now before old all.legal t told in
     record {
       new = x.new;

@@ -28,7 +28,7 @@ added_of before after old added above upto = record { grow = refl; entries_grow 
 
 pub told_before : (before after : Story) (places : List Placed) → GoesOn before after → places_in after ≡ Some places → (old : List Placed) × (places_in before ≡ Some old)
 told_before Untold after places g p = absurd (let e : (places_in after ≡ None) = rw g refl in cc)
-told_before (Recorded r) after places g p = (counted r, refl)
+told_before (Recorded clock r) after places g p = (counted r, refl)
 told_before (Full start events) after places g p = (placed start events, refl)
 
 pub some_is : (a b : List Placed) → Some a ≡ Some b → a ≡ b

@@ -3,7 +3,7 @@ use Rattle.std.proofs.Common.{◌≡◌, inl, inr, ℕ, ◌+◌, ◌≤◌, List
 use Rattle.std.specs.Prelude.{◌||◌}
 use Rattle.line_model.specs.declared.fault.HubFault.{HubFault}
 use Rattle.line_model.specs.Record.{Put, entry, is_poll, Placed, entries}
-use Rattle.line_model.specs.LinkStory.{Story, places_in, newest_time, AreWaits, SendsOrNot}
+use Rattle.line_model.specs.LinkStory.{Story, Exact, clock_of, places_in, newest_time, AreWaits, SendsOrNot}
 use Rattle.line_model.specs.ClientView.{channel, Puts, Takes, Loses, Nothing, deed}
 use Rattle.line_model.specs.Moments.{Moment}
 use Rattle.line_model.specs.Signs.{Every}
@@ -161,11 +161,11 @@ module _ (result : Result Came HubFault) (next : Known) (a : Answer) (old ws : L
 pub record PollOf (result : Result Came HubFault) (wait : ℕ) (new : Known) (before after : Story) (old : List Placed) : Type 0 where
   pub is : After (λ places. IsKept new (entries places)) after
   pub grows : Grows (PollAdds result) (place_of before) (place_of after) old after
-  pub polling : IsPolling wait old grows.added
+  pub polling : IsPolling (clock_of before) wait old grows.added
   pub alone : Each LeavesAlone old grows.added
 
 module _ (result : Result Came HubFault) (wait : ℕ) (new : Known) (before between after : Story) (old ws : List Placed) (legal : Keeps between) (next : Known) (a : Answer) (p : Placed) (poll : is_poll p.what.what ≡ true)
-    (times : AreWaits (newest_time (entries old)) (entries ws)) (in_time : newest_time (entries (ws ++ old)) ≤ newest_time (entries old) + wait) (ends : p.what.now ≤ newest_time (entries old) + wait) (c : Comes next a old ws p) (told : places_in between ≡ Some (p ∷ (ws ++ old))) (above : IsAbove (place_of before) (p ∷ ws)) (upto : IsUpto (place_of between) (p ∷ ws)) (up : place_of before ≤ place_of between) where
+    (times : AreWaits (newest_time (entries old)) (entries ws)) (in_time : newest_time (entries (ws ++ old)) ≤ newest_time (entries old) + wait) (ends : clock_of before ≡ Exact → p.what.now ≤ newest_time (entries old) + wait) (c : Comes next a old ws p) (told : places_in between ≡ Some (p ∷ (ws ++ old))) (above : IsAbove (place_of before) (p ∷ ws)) (upto : IsUpto (place_of between) (p ∷ ws)) (up : place_of before ≤ place_of between) where
   polls_alone : Each LeavesAlone old (p ∷ ws)
   polls_alone = (is_alone (entries (ws ++ old)) p.what poll, waits_alone (newest_time (entries old)) old ws times)
 

@@ -3,20 +3,20 @@ use Rattle.std.proofs.Common.{◌≡◌, ℕ, ◌+◌, ◌≤◌, List, [], ◌�
 use Rattle.std.specs.Prelude.{min}
 use Rattle.std.specs.List.{AllByRecursion}
 use Rattle.line_model.specs.Record.{Placed, entries}
-use Rattle.line_model.specs.LinkStory.{newest_time, AreWaits}
+use Rattle.line_model.specs.LinkStory.{Clock, Exact, newest_time, AreWaits}
 use Rattle.tunnel_link.specs.Alone.{Each}
 use Rattle.tunnel_link.specs.Goes.{TimesMove}
 use Rattle.tunnel_link.specs.Paces.{PollsOnce, PollsWithin}
 use Rattle.tunnel_link.proofs.Times.{moves_up}
 
-pub record IsPolling (wait : ℕ) (old added : List Placed) : Type 0 where
+pub record IsPolling (clock : Clock) (wait : ℕ) (old added : List Placed) : Type 0 where
   pub rest : List Placed
   pub waits : List Placed
   pub parts : added ≡ rest ++ waits
   pub once : PollsOnce rest
   pub times : AreWaits (newest_time (entries old)) (entries waits)
   pub in_time : newest_time (entries (waits ++ old)) ≤ newest_time (entries old) + wait
-  pub ends : newest_time (entries (added ++ old)) ≤ newest_time (entries old) + wait
+  pub ends : clock ≡ Exact → newest_time (entries (added ++ old)) ≤ newest_time (entries old) + wait
 
 -- ---- none of its entries comes later than it ends
 
@@ -38,13 +38,13 @@ each_short old (p ∷ added) moves le =
     let since = goes_up old added moves.1 in
     (omega (arith, since, le), each_short old added moves.1 (omega (arith, up, le)))
 
-pub polls_within : (longest wait : ℕ) (old added : List Placed) → wait ≤ min longest 100 → TimesMove (entries (added ++ old)) → IsPolling wait old added → PollsWithin longest old added
-polls_within longest wait old added most moves p = record {
+pub polls_within : (clock : Clock) (longest wait : ℕ) (old added : List Placed) → wait ≤ min longest 100 → TimesMove (entries (added ++ old)) → IsPolling clock wait old added → PollsWithin clock longest old added
+polls_within clock longest wait old added most moves p = record {
   rest = p.rest;
   waits = p.waits;
   parts = p.parts;
   once = p.once;
   times = p.times;
-  in_time = all_until (newest_time (entries old) + min longest 100) old added moves (let e = p.ends in omega (arith, e, most));
-  short = each_short old added moves (let e = p.ends in omega (arith, e, most));
+  in_time = λ exact. all_until (newest_time (entries old) + min longest 100) old added moves (let e = p.ends exact in omega (arith, e, most));
+  short = λ exact. each_short old added moves (let e = p.ends exact in omega (arith, e, most));
 }

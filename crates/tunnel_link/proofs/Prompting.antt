@@ -3,7 +3,7 @@ use Rattle.std.proofs.Common.{◌≡◌, ℕ, ◌+◌, ◌<◌, ◌≤◌, List,
 use Rattle.std.specs.Prelude.{◌&&◌}
 use Rattle.std.proofs.lemmas.Bool.{or_parts}
 use Rattle.line_model.specs.Record.{Item, Quiet, Entry, entry, Placed, entries, is_poll}
-use Rattle.line_model.specs.LinkStory.{newest_time, AreWaits}
+use Rattle.line_model.specs.LinkStory.{Clock, newest_time, AreWaits}
 use Rattle.line_model.specs.ChannelLost.{own}
 use Rattle.line_model.specs.ClientView as seen
 use Rattle.line_model.specs.ClientView.{ClientChannel, channel, after_entry}
@@ -107,10 +107,10 @@ module _ (k : Known) (old : List Placed) (f : FitsRecord k (entries old)) (moves
     once_each rest ws (Polls p) h le = (next ws h le p.what, waits_each ws h le)
     once_each rest ws (PollsAndSends s p n) h le = (sends (entries (p ∷ (ws ++ old))) s.what n, (next ws h le p.what, waits_each ws h le))
 
-    polling_each : (wait : ℕ) (added : List Placed) → until ≡ newest_time (entries old) + wait → IsPolling wait old added → Each P old added
-    polling_each wait added same p = rw p.parts (once_each p.rest p.waits p.once p.times (let le = p.in_time in omega arith))
+    polling_each : (clock : Clock) (wait : ℕ) (added : List Placed) → until ≡ newest_time (entries old) + wait → IsPolling clock wait old added → Each P old added
+    polling_each clock wait added same p = rw p.parts (once_each p.rest p.waits p.once p.times (let le = p.in_time in omega arith))
 
-  pub polling_beats : (wait : ℕ) (added : List Placed) → until ≡ newest_time (entries old) + wait → IsPolling wait old added → Each BeatsInTime old added
+  pub polling_beats : (clock : Clock) (wait : ℕ) (added : List Placed) → until ≡ newest_time (entries old) + wait → IsPolling clock wait old added → Each BeatsInTime old added
   polling_beats = polling_each BeatsInTime (λ r x none poll. absurd (let z : true ≡ false = sym poll ∙ none in cc)) (λ ws h le x poll. beat_in_time (channel (entries (ws ++ old))) (to_poll_before (entries (ws ++ old))) (next_late ws h le))
 
   -- ---- and where no new endpoint was to be taken
@@ -142,5 +142,5 @@ module _ (k : Known) (old : List Placed) (f : FitsRecord k (entries old)) (moves
     next_prompt : (ws : List Placed) → AreWaits (newest_time (entries old)) (entries ws) → newest_time (entries (ws ++ old)) ≤ until → (x : Entry) → PollsPromptly (entries (ws ++ old)) x
     next_prompt ws h le x = λ poll. not_overdue (channel (entries (ws ++ old))) (to_poll_before (entries (ws ++ old))) (next_left ws h le) (next_late ws h le)
 
-    pub polling_prompt : (wait : ℕ) (added : List Placed) → until ≡ newest_time (entries old) + wait → IsPolling wait old added → AllPrompt old added
+    pub polling_prompt : (clock : Clock) (wait : ℕ) (added : List Placed) → until ≡ newest_time (entries old) + wait → IsPolling clock wait old added → AllPrompt old added
     polling_prompt = polling_each PollsPromptly (λ r x none poll. absurd (let z : true ≡ false = sym poll ∙ none in cc)) next_prompt

@@ -5,7 +5,7 @@ use Rattle.knx_model.specs.declared.frames.ip.IpFrame.TheVariants.{ConnectReques
 use Rattle.knx_model.specs.KnxNetIp.{Written}
 use Rattle.line_model.specs.declared.fault.HubFault.{HubFault}
 use Rattle.line_model.specs.Record.{Placed, entries}
-use Rattle.line_model.specs.LinkStory.{Story, newest_time, IsTime}
+use Rattle.line_model.specs.LinkStory.{Story, clock_of, newest_time, IsTime}
 use Rattle.line_model.specs.ClientView.{channel}
 use Rattle.line_model.specs.ClientEnd.{ClientEnd, Seeking, MayConnect}
 use Rattle.tunnel_link.specs.declared.came.Came.{Came}
@@ -61,15 +61,15 @@ sought_ready r x ok k new before after all (inr u) = absurd (let a = u.answer in
 -- ---- a poll
 
 -- of one that wasn't made
-pub none_within : (longest : ℕ) (story : Story) → Growing (PollsWithin longest) story story
-none_within longest story old p = unmoved (PollsWithin longest) story story old refl p (record { rest = []; waits = []; parts = refl; once = NoPoll; times = tt; in_time = tt; short = tt })
+pub none_within : (longest : ℕ) (story : Story) → Growing (PollsWithin (clock_of story) longest) story story
+none_within longest story old p = unmoved (PollsWithin (clock_of story) longest) story story old refl p (record { rest = []; waits = []; parts = refl; once = NoPoll; times = tt; in_time = λ exact. tt; short = λ exact. tt })
 
 module _ (result : Result Came HubFault) (wait now : ℕ) (k new : Known) (before after : Story) (tunnels : HasTunnels) (all : KeepsAll k before) (calm : k.fault ≡ None) (l : ListensSo result wait k new before after) where
-  pub poll_within : (longest : ℕ) → wait ≤ min longest 100 → Growing (PollsWithin longest) before after
+  pub poll_within : (longest : ℕ) → wait ≤ min longest 100 → Growing (PollsWithin (clock_of before) longest) before after
   poll_within longest most old p =
       let x = of_places result wait k new before after tunnels all calm l old p in
       let moves : TimesMove (entries (x.grows.added ++ old)) = subst (λ (places : List Placed). TimesMove (entries places)) x.grows.grown.grow (times_told after x.grows.new ((listens_go result wait k new before after l).keeps all.legal) x.grows.told) in
-      record { new = x.grows.new; told = x.grows.told; added = x.grows.added; grown = x.grows.grown; is = polls_within longest wait old x.grows.added most moves x.polling }
+      record { new = x.grows.new; told = x.grows.told; added = x.grows.added; grown = x.grows.grown; is = polls_within (clock_of before) longest wait old x.grows.added most moves x.polling }
 
   module _ (t : IsTime now before) (w : WaitsUntil (next_due k) now (now + wait)) where
     pub poll_beats : HasActed k before → Growing (Each BeatsInTime) before after
@@ -81,7 +81,7 @@ module _ (result : Result Came HubFault) (wait now : ℕ) (k new : Known) (befor
           told = x.grows.told;
           added = x.grows.added;
           grown = x.grows.grown;
-          is = polling_beats k old ((all.kept old p).fits calm) (times_told before old all.legal p) (acted calm old p) (now + wait) (subst (λ (n : ℕ). WaitsUntil (next_due k) n (now + wait)) same w) wait x.grows.added (ap (λ (n : ℕ). n + wait) same) x.polling;
+          is = polling_beats k old ((all.kept old p).fits calm) (times_told before old all.legal p) (acted calm old p) (now + wait) (subst (λ (n : ℕ). WaitsUntil (next_due k) n (now + wait)) same w) (clock_of before) wait x.grows.added (ap (λ (n : ℕ). n + wait) same) x.polling;
         }
 
     pub poll_prompt : wait ≤ 100 → Ready k before → Growing AllPrompt before after
@@ -94,5 +94,5 @@ module _ (result : Result Came HubFault) (wait now : ℕ) (k new : Known) (befor
           added = x.grows.added;
           grown = x.grows.grown;
           is = polling_prompt k old ((all.kept old p).fits calm) (times_told before old all.legal p) (ready.acted calm old p) (now + wait) (subst (λ (n : ℕ). WaitsUntil (next_due k) n (now + wait)) same w) (omega arith) (ready.sought calm old p)
-              wait x.grows.added (ap (λ (n : ℕ). n + wait) same) x.polling;
+              (clock_of before) wait x.grows.added (ap (λ (n : ℕ). n + wait) same) x.polling;
         }

@@ -5,16 +5,16 @@ use Rattle.line_model.specs.World.{World, Event, Send, Renew, replay}
 use Rattle.line_model.specs.Legal.{MayHappen}
 use Rattle.line_model.specs.Record.{Item, Put, Renewed, Entry, entry, is_poll}
 use Rattle.line_model.specs.LinkStory as told
-use Rattle.line_model.specs.LinkStory.{Story, Untold, Recorded, Full, Adds, Sends, Renews, SendsOrNot, RenewsOrNot, Polls, PollsNothing, PollsFull, Same, More, AreWaits, last_wait}
+use Rattle.line_model.specs.LinkStory.{Story, Untold, Recorded, Full, clock_of, Adds, Sends, Renews, SendsOrNot, RenewsOrNot, Polls, PollsNothing, PollsFull, Same, More, AreWaits, last_wait}
 use Rattle.tunnel_link.specs.Goes.{GoesOn, Goes, MovesSo, TimesMove, IsLegalRun}
 
 -- ---- one after another
 
 pub goes_again : (a b c : Story) → GoesOn a b → GoesOn b c → GoesOn a c
 goes_again Untold b c e f = let P : Story → Type 0 = λ s. GoesOn s c in let h : c ≡ Untold = subst P e f in h
-goes_again (Recorded r) b c g f =
+goes_again (Recorded clock r) b c g f =
     let P : Story → Type 0 = λ s. GoesOn s c in
-    let h : (more : List Entry) × (c ≡ Recorded (more ++ (g.0 ++ r))) = subst P g.1 f in
+    let h : (more : List Entry) × (c ≡ Recorded clock (more ++ (g.0 ++ r))) = subst P g.1 f in
     (h.0 ++ g.0, rw append_assoc h.1)
 goes_again (Full start events) b c g f =
     let P : Story → Type 0 = λ s. GoesOn s c in
@@ -23,8 +23,14 @@ goes_again (Full start events) b c g f =
 
 pub goes_same : (a : Story) → GoesOn a a
 goes_same Untold = refl
-goes_same (Recorded r) = ([], refl)
+goes_same (Recorded clock r) = ([], refl)
 goes_same (Full start events) = ([], refl)
+
+-- its clock stays what it was
+pub same_clock : (a b : Story) → GoesOn a b → clock_of b ≡ clock_of a
+same_clock Untold b e = ap clock_of e
+same_clock (Recorded clock r) b g = ap clock_of g.1
+same_clock (Full start events) b g = ap clock_of g.1
 
 pub goes_then : (a b c : Story) → Goes a b → Goes b c → Goes a c
 goes_then a b c g h = record { on = goes_again a b c g.on h.on; keeps = λ k. h.keeps (g.keeps k) }
@@ -53,9 +59,9 @@ legal_more start events e may k = record { fresh = k.fresh; legal = (may, k.lega
 
 adds : (what : Item) (e : Event) (before after : Story) → ((w : World) → MayHappen Commissions w e) → Adds what e before after → Goes before after
 adds what e before Untold may h = let P : Story → Type 0 = λ s. Goes s Untold in subst P (sym h) (record { on = refl; keeps = λ k. tt })
-adds what e before (Recorded r) may h =
-    let P : Story → Type 0 = λ s. Goes s (Recorded r) in
-    subst P (sym h.1) (record { on = (entry what (told.newest_time h.0) ∷ [], ap Recorded h.2); keeps = λ k. subst TimesMove (sym h.2) (stays_now (is_poll what) (told.newest_time h.0), k) })
+adds what e before (Recorded clock r) may h =
+    let P : Story → Type 0 = λ s. Goes s (Recorded clock r) in
+    subst P (sym h.1) (record { on = (entry what (told.newest_time h.0) ∷ [], ap (Recorded clock) h.2); keeps = λ k. subst TimesMove (sym h.2) (stays_now (is_poll what) (told.newest_time h.0), k) })
 adds what e before (Full start events) may h =
     let P : Story → Type 0 = λ s. Goes s (Full start events) in
     let Q : List Event → Type 0 = λ es. IsLegalRun start es in
@@ -90,22 +96,22 @@ full_goes what wait start before after p =
     (goes_then (Full start before) (Full start p.events) (Full start (p.last ∷ p.events)) (foreign_goes start before p.events p.foreign)
     (record { on = (p.last ∷ [], refl); keeps = λ k. legal_more start p.events p.last p.legal k }))
 
-pub polls_goes : (what : Item) (wait clock : ℕ) (before after : Story) → is_poll what ≡ true → Polls what wait clock before after → Goes before after
-polls_goes what wait clock before Untold poll h = let P : Story → Type 0 = λ s. Goes s Untold in subst P (sym h) (record { on = refl; keeps = λ k. tt })
-polls_goes what wait clock before (Recorded r) poll h =
-    let P : Story → Type 0 = λ s. Goes s (Recorded r) in
-    let all : r ≡ entry what clock ∷ (h.2.waits ++ h.0) = h.2.all in
+pub polls_goes : (what : Item) (wait until : ℕ) (before after : Story) → is_poll what ≡ true → Polls what wait until before after → Goes before after
+polls_goes what wait until before Untold poll h = let P : Story → Type 0 = λ s. Goes s Untold in subst P (sym h) (record { on = refl; keeps = λ k. tt })
+polls_goes what wait until before (Recorded clock r) poll h =
+    let P : Story → Type 0 = λ s. Goes s (Recorded clock r) in
+    let all : r ≡ entry what until ∷ (h.2.waits ++ h.0) = h.2.all in
     subst P (sym h.1) (record {
-      on = (entry what clock ∷ h.2.waits, ap Recorded all);
+      on = (entry what until ∷ h.2.waits, ap (Recorded clock) all);
       keeps = λ k. subst TimesMove (sym all) (rw (poll, newest_waits h.2.waits h.0) h.2.later, waits_move h.2.waits h.0 h.2.are k);
     })
-polls_goes what wait clock before (Full start events) poll h =
+polls_goes what wait until before (Full start events) poll h =
     let P : Story → Type 0 = λ s. Goes s (Full start events) in
     subst P (sym h.1) (full_goes what wait start h.0 events h.2)
 
 pub nothing_goes : (wait : ℕ) (before after : Story) → PollsNothing wait before after → Goes before after
 nothing_goes wait before Untold h = let P : Story → Type 0 = λ s. Goes s Untold in subst P (sym h) (record { on = refl; keeps = λ k. tt })
-nothing_goes wait before (Recorded r) h = stays before (Recorded r) (sym h)
+nothing_goes wait before (Recorded clock r) h = stays before (Recorded clock r) (sym h)
 nothing_goes wait before (Full start events) h =
     let P : Story → Type 0 = λ s. Goes s (Full start events) in
     subst P (sym h.1) (foreign_goes start h.0 events h.2.foreign)

@@ -61,7 +61,7 @@ placed_move start (e ∷ events) fresh = one_moves start e events fresh (placed_
 
 pub times_told : (story : Story) (old : List Placed) → Keeps story → places_in story ≡ Some old → TimesMove (entries old)
 times_told Untold old k p = absurd (cc)
-times_told (Recorded r) old k p = subst (λ (l : List Placed). TimesMove (entries l)) (same_places (Recorded r) (counted r) old refl p) (rw (entries_counted r) k)
+times_told (Recorded clock r) old k p = subst (λ (l : List Placed). TimesMove (entries l)) (same_places (Recorded clock r) (counted r) old refl p) (rw (entries_counted r) k)
 times_told (Full start events) old k p = subst (λ (l : List Placed). TimesMove (entries l)) (same_places (Full start events) (placed start events) old refl p) (placed_move start events k.fresh)
 
 -- ---- no time is greater than a newer one

@@ -29,7 +29,7 @@ use Rattle.tunnel_link.specs.Rights.{WhileFits}
 
 abbrev pub place_of : Story → ℕ
 place_of Untold = 0
-place_of (Recorded r) = length r
+place_of (Recorded clock r) = length r
 place_of (Full start events) = length events
 
 -- ---- the places added to the old ones

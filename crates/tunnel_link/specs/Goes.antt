@@ -18,7 +18,7 @@ use Rattle.tunnel_link.specs.Rights.{KeepsRecord}
 
 abbrev pub GoesOn : Story → Story → Type 0
 GoesOn Untold after = after ≡ Untold
-GoesOn (Recorded r) after = (more : List Entry) × (after ≡ Recorded (more ++ r))
+GoesOn (Recorded clock r) after = (more : List Entry) × (after ≡ Recorded clock (more ++ r))
 GoesOn (Full start events) after = (more : List Event) × (after ≡ Full start (more ++ events))
 
 -- ---- what is kept of it
@@ -39,7 +39,7 @@ TimesMove (x ∷ r) = MovesSo (is_poll x.what) (newest_time r) x.now × TimesMov
 
 abbrev pub Keeps : Story → Type 0
 Keeps Untold = Unit {0}
-Keeps (Recorded r) = TimesMove r
+Keeps (Recorded clock r) = TimesMove r
 Keeps (Full start events) = IsLegalRun start events
 
 -- it goes on so, and legally

@@ -1,11 +1,11 @@
 -- At which pace a call goes on, by the entries that it adds. But for a poll none of them takes time. A poll is made of waits, whatever comes of it, then
--- at most one more poll, and at most one sending after that; it lasts so long at most, and a heartbeat that is due isn't passed over in it.
+-- at most one more poll, and at most one sending after that; with an exact clock it lasts so long at most, and a heartbeat that is due isn't passed over in it.
 use Rattle.std.specs.Prelude.{◌≡◌, ℕ, ◌+◌, ◌≤◌, min, true, false, List, [], ◌∷◌, ◌++◌}
 use Rattle.std.specs.List.{AllByRecursion}
 use Rattle.line_model.specs.Record.{Entry, Placed, entries, is_poll}
 use Rattle.line_model.specs.ClientView.{channel}
 use Rattle.line_model.specs.Renews.{to_poll_before}
-use Rattle.line_model.specs.LinkStory.{newest_time, AreWaits}
+use Rattle.line_model.specs.LinkStory.{Clock, Exact, newest_time, AreWaits}
 use Rattle.line_model.specs.Haste.{is_beat_overdue}
 use Rattle.line_model.specs.Waiting.{longest_poll}
 use Rattle.tunnel_link.specs.Alone.{Each}
@@ -23,15 +23,15 @@ pub data PollsOnce : List Placed → Type 0 where
   Polls : (p : Placed) → PollsOnce (p ∷ [])
   PollsAndSends : (s p : Placed) → is_poll s.what.what ≡ false → PollsOnce (s ∷ p ∷ [])
 
--- it lasts so many milliseconds at most, and no entry comes later than the longest poll after the one before it
-pub record PollsWithin (longest : ℕ) (old added : List Placed) : Type 0 where
+-- with an exact clock it lasts so many milliseconds at most, and no entry comes later than the longest poll after the one before it
+pub record PollsWithin (clock : Clock) (longest : ℕ) (old added : List Placed) : Type 0 where
   pub rest : List Placed
   pub waits : List Placed
   pub parts : added ≡ rest ++ waits
   pub once : PollsOnce rest
   pub times : AreWaits (newest_time (entries old)) (entries waits)
-  pub in_time : AllByRecursion (λ (p : Placed). p.what.now ≤ newest_time (entries old) + min longest longest_poll) added
-  pub short : Each (λ r x. x.now ≤ newest_time r + longest_poll) old added
+  pub in_time : clock ≡ Exact → AllByRecursion (λ (p : Placed). p.what.now ≤ newest_time (entries old) + min longest longest_poll) added
+  pub short : clock ≡ Exact → Each (λ r x. x.now ≤ newest_time r + longest_poll) old added
 
 -- where it is a poll, no heartbeat was due already at the end of the poll before the last
 abbrev pub BeatsInTime : List Entry → Entry → Type 0

@@ -35,8 +35,8 @@ pub enum Polled {
     Quiet,
 }
 
-/// Sends datagrams to the gateway and gets those that come. A link that tells something of itself fails before its time or its place would pass
-/// the greatest number of 64 bits.
+/// Sends datagrams to the gateway and gets those that come. Its clock is read in polls alone. A link that tells something of itself fails before its
+/// time or its place would pass the greatest number of 64 bits.
 pub trait Link: Drop {
     ghost use Rattle.line_model.specs.LinkStory.{Story};
     ghost use Rattle.line_model.specs.Lines.{Script};
@@ -48,7 +48,7 @@ pub trait Link: Drop {
     /// The script that its line follows, empty where it follows none; it stays as it is.
     ghost script: { Self → Script };
 
-    /// The last time that it read, in milliseconds.
+    /// The last time that it read, in milliseconds: at the end of the last poll.
     ghost clock: { Self → ℕ };
 
     /// How many events there were; of a link that tells its record and no events, how many entries it has.
@@ -63,7 +63,7 @@ pub trait Link: Drop {
         ensures failed { OnErr result (SendsOrNot octets.now (story self.old) (story self.new)) }
         ensures cause { FailsWhere result (faults self.old) (faults self.new) }
         ensures count { faults self.old ≤ faults self.new }
-        ensures time { clock self.old ≤ clock self.new }
+        ensures time { clock self.new ≡ clock self.old }
         ensures events { place self.old ≤ place self.new }
         ensures script { script self.new ≡ script self.old };
 
@@ -73,7 +73,7 @@ pub trait Link: Drop {
         ensures failed { OnErr result (RenewsOrNot (story self.old) (story self.new)) }
         ensures cause { FailsWhere result (faults self.old) (faults self.new) }
         ensures count { faults self.old ≤ faults self.new }
-        ensures time { clock self.old ≤ clock self.new }
+        ensures time { clock self.new ≡ clock self.old }
         ensures events { place self.old ≤ place self.new }
         ensures script { script self.new ≡ script self.old };
 
@@ -86,7 +86,7 @@ pub trait Link: Drop {
         ensures events { place self.old ≤ place self.new }
         ensures script { script self.new ≡ script self.old };
 
-    /// The last time that was read, in milliseconds. A link that tells something has no other clock than that.
+    /// The last time that was read, in milliseconds: that of the newest entry of what it tells.
     fn now(&self) -> u64
         ensures value { result ≡ clock self.now }
         ensures told { IsTime result (story self.now) };

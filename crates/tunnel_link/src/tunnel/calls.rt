@@ -2,7 +2,7 @@
 
 ghost use Rattle.std.specs.Prelude.{◌≡◌, ◌≤◌, IfErr, OnOk, Ok, Some, None};
 ghost use Rattle.line_model.specs.ClientEnd.{IsCemi};
-ghost use Rattle.line_model.specs.LinkStory.{IsTime};
+ghost use Rattle.line_model.specs.LinkStory.{IsTime, clock_of};
 ghost use Rattle.tunnel_link.specs.Alone.{Each, EndsNone, LeavesAlone, SendsOnce};
 ghost use Rattle.tunnel_link.specs.Goes.{GoesOn, AfterFault};
 ghost use Rattle.tunnel_link.specs.Rights.{FailsWhere, IsOfTunnel, WhereTold};
@@ -190,8 +190,8 @@ impl<L: Link> Tunnel<L> {
         ensures alone { Growing (Each LeavesAlone) (L.story self.old.link) (L.story self.new.link) }
         ensures prompt { Ready self.old.known (L.story self.old.link) → Growing AllPrompt (L.story self.old.link) (L.story self.new.link) }
         ensures beats { HasActed self.old.known (L.story self.old.link) → Growing (Each BeatsInTime) (L.story self.old.link) (L.story self.new.link) }
-        ensures within { Growing (PollsWithin longest_ms) (L.story self.old.link) (L.story self.new.link) }
-        ensures lasts { HasActed self.old.known (L.story self.old.link) → OnOk result (Growing (LastsRightly longest_ms) (L.story self.old.link) (L.story self.new.link)) }
+        ensures within { Growing (PollsWithin (clock_of (L.story self.old.link)) longest_ms) (L.story self.old.link) (L.story self.new.link) }
+        ensures lasts { HasActed self.old.known (L.story self.old.link) → OnOk result (Growing (LastsRightly (clock_of (L.story self.old.link)) longest_ms) (L.story self.old.link) (L.story self.new.link)) }
     {
         frames_are_read();
         self.known.standing()?;

@@ -3,8 +3,9 @@ use Rattle.line_model.specs.LinkStory.{Sends}
 use Rattle.line_model.specs.Record.{Put}
 use Rattle.line_model.specs.World as world
 use Rattle.address_world.specs.AddressWorld.{Send}
-use Rattle.address_sim.specs.Told.{happened, story}
-use Rattle.address_sim.proofs.Links.{RunsLater, added_later, either_later, err_stays, ok_adds}
+use Rattle.address_sim.specs.Told.{happened, story, world}
+use Rattle.address_sim.proofs.Links.{RunsLater, added_later, either_later, either_still, err_stays, ok_adds}
+use Rattle.address_sim.proofs.Seen.{timeless}
 use Rattle.address_sim.proofs.link.AddressBusLink.send.Goals as goal
 
 later : (c : goal.After-send_to_run) → RunsLater c.args.self.now.run c.send_to_run.new.self.run
@@ -18,7 +19,8 @@ pub returns-clause-failed : goal.returns-clause-failed
 returns-clause-failed c = err_stays (Sends c.args.octets.now (story c.args.self.now.run) (story c.send_to_run.new.self.run)) c.send_to_run.result c.args.self.now.run c.send_to_run.new.self.run c.send_to_run.ensures.err
 
 pub returns-clause-time : goal.returns-clause-time
-returns-clause-time c = (later c).time
+returns-clause-time c = either_still c.send_to_run.result c.args.self.now.run c.send_to_run.new.self.run (happened c.args.self.now.run (Send c.args.octets.now)) c.send_to_run.ensures.went c.send_to_run.ensures.err
+    (timeless (world c.args.self.now.run) (Send c.args.octets.now) refl)
 
 pub returns-clause-events : goal.returns-clause-events
 returns-clause-events c = (later c).entries

@@ -1,18 +1,18 @@
-use Rattle.std.proofs.Common.{inr, ap, ◌∙◌}
+use Rattle.std.proofs.Common.{inr, refl, ap, ◌∙◌}
 use Rattle.line_model.specs.Record.{Renewed}
 use Rattle.line_model.specs.World.{Renew}
 use Rattle.bus_sim.specs.RunNow.{story}
-use Rattle.bus_sim.proofs.Linked.{added, added_later, stayed_later}
+use Rattle.bus_sim.proofs.Linked.{added, added_still, stayed_still}
 use Rattle.bus_sim.proofs.link.SimBusLink.renew.Goals as goal
 
 pub returns-in-Ok-clause-renewed : goal.returns-in-Ok-clause-renewed
 returns-in-Ok-clause-renewed c = added Renewed Renew c.args.self.now.run c.renew_run.new.self.run c.in-Ok.ensures.one c.in-Ok.ensures.went
 
 pub returns-in-Ok-clause-time : goal.returns-in-Ok-clause-time
-returns-in-Ok-clause-time c = (added_later Renew c.args.self.now.run c.renew_run.new.self.run c.in-Ok.ensures.went).time
+returns-in-Ok-clause-time c = added_still Renew c.args.self.now.run c.renew_run.new.self.run refl c.in-Ok.ensures.went
 
 pub returns-in-Err-clause-failed : goal.returns-in-Err-clause-failed
 returns-in-Err-clause-failed c = inr (ap story (c.fault_of.ensures.run ∙ c.in-Err.ensures.err))
 
 pub returns-in-Err-clause-time : goal.returns-in-Err-clause-time
-returns-in-Err-clause-time c = (stayed_later c.args.self.now.run c.fault_of.new.self.run (c.fault_of.ensures.run ∙ c.in-Err.ensures.err)).time
+returns-in-Err-clause-time c = stayed_still c.args.self.now.run c.fault_of.new.self.run (c.fault_of.ensures.run ∙ c.in-Err.ensures.err)

@@ -35,7 +35,7 @@ returns-clause-thorough g c =
 
 pub returns-clause-hastens : goal.returns-clause-hastens
 returns-clause-hastens g c =
-    rw (← c.self.view_is) (λ jobs of places e. loses_none jobs c.self.inside.work.telegrams.turns c.self.inside.work.journal.entries places (c.self.invariant.hastens jobs (subst (λ (ts : List Task). AreJobsWith ts jobs) (seen_tasks c.self.inside.work) of) places e))
+    rw (← c.self.view_is) (λ jobs of places e. loses_none _ jobs c.self.inside.work.telegrams.turns c.self.inside.work.journal.entries places (c.self.invariant.hastens jobs (subst (λ (ts : List Task). AreJobsWith ts jobs) (seen_tasks c.self.inside.work) of) places e))
 
 pub returns-clause-right : goal.returns-clause-right
 returns-clause-right g c =
