@@ -1,5 +1,5 @@
+pub mod EachTables
 pub mod Lists
-pub mod TableLines
 pub mod Behind
 pub mod Lines
 pub mod Ends

@@ -1,6 +1,6 @@
 //! What is told of a checked project.
 
-ghost use Rattle.std.specs.Prelude.{◌≡◌, ◌++◌, ◌∷◌, [], OnOk, IfOk, codes};
+ghost use Rattle.std.specs.Prelude.{◌≡◌, ◌++◌, ◌∷◌, [], OnOk, IfOk, codes, map};
 ghost use Rattle.std.specs.Fmt.{decimal};
 ghost use Rattle.std.specs.List.{flat_map, join_with_byte, zip};
 ghost use Rattle.knx_model.specs.Addresses.{device_text};
@@ -8,8 +8,13 @@ ghost use Rattle.call_words.specs.ReportText.{counts_line, counts_words, image_l
 ghost use Rattle.knx_model.specs.TextLines.{line};
 
 use crate::pieces::put_hex;
-use knx_model::{Counts, Image, IndAddr, NoMemory, Octets, put_device_word, put_number_word};
+use knx_model::{Counts, Image, IndAddr, List, NoMemory, Octets, put_device_word, put_number_word};
+use rayon::prelude::*;
 use std::alloc::Global;
+use std::thread::Threads;
+
+/// How few devices are worth a thread of their own.
+const LEAST_PIECE: usize = 4;
 
 /// Appends how many devices, objects and links a project has.
 pub fn put_counts(alloc: Global, out: &mut Octets, counts: Counts) -> Result<(), NoMemory>
@@ -64,46 +69,58 @@ fn put_image(out: &mut Octets, image: &Image) -> Result<(), NoMemory>
     put_list(out, "params", &image.params)
 }
 
-/// Appends the tables and the parameter memory of a device, in five lines.
-fn put_tables(
-    alloc: Global,
-    out: &mut Octets,
-    device: IndAddr,
-    image: &Image,
-) -> Result<(), NoMemory>
-    ensures { OnOk result (out.new ≡ out.old ++ tables_lines device image.now) }
-{
-    put_device_line(alloc, out, device)?;
-    put_image(out, image)
-}
-
-/// Appends the tables of devices, each of its image.
-#[tactic(auto, using(crate::proofs::TableLines::one_more, crate::proofs::TableLines::no_device, crate::proofs::TableLines::no_image))]
-fn put_all_tables(
-    alloc: Global,
-    out: &mut Octets,
-    devices: &[IndAddr],
-    images: &[Image],
-) -> Result<(), NoMemory>
-    ensures { OnOk result (out.new ≡ out.old ++ flat_map (λ c. tables_lines c.0 c.1) (zip devices.now images.now)) }
-{
-    let (mut devices, mut images) = (devices, images);
-    while let [device, next_devices @ ..] = devices {
-        let [image, next_images @ ..] = images else {
-            return Ok(());
-        };
-        put_tables(alloc, out, *device, image)?;
-        devices = next_devices;
-        images = next_images;
-    }
-    Ok(())
-}
-
-/// The tables of devices, each of its image: as many as both lists have.
-pub fn tables_text(alloc: Global, devices: &[IndAddr], images: &[Image]) -> Result<Octets, NoMemory>
-    ensures { IfOk result (λ text. text ≡ flat_map (λ c. tables_lines c.0 c.1) (zip devices.now images.now)) }
+/// The tables and the parameter memory of a device, in five lines.
+fn tables_of(alloc: Global, device: IndAddr, image: &Image) -> Result<Octets, NoMemory>
+    ensures { IfOk result (λ text. text ≡ tables_lines device image.now) }
 {
     let mut out = Octets::new(alloc);
-    put_all_tables(alloc, &mut out, devices, images)?;
+    put_device_line(alloc, &mut out, device)?;
+    put_image(&mut out, image)?;
     Ok(out)
+}
+
+/// The tables of each device, each of its image. Pieces of the devices are told in threads of their own.
+fn each_tables<R: Threads + Sync>(
+    rt: &R,
+    alloc: Global,
+    devices: &[IndAddr],
+    images: &[Image],
+) -> Result<List<Octets>, NoMemory>
+    ensures { IfOk result (λ texts. texts ≡ map (λ c. tables_lines c.0 c.1) (zip devices.now images.now)) }
+{
+    let texts: Result<Vec<Octets>, NoMemory> = devices
+        .par_iter()
+        .zip(images)
+        .with_min_len(LEAST_PIECE)
+        .map(
+            |c: (&IndAddr, &Image)| -> Result<Octets, NoMemory>
+                ensures { IfOk result (λ text. text ≡ tables_lines c.entry.0.now c.entry.1.now) }
+            { tables_of(alloc, *c.0, c.1) },
+        )
+        .collect(rt, alloc)?;
+    Ok(List::from_vec(texts?))
+}
+
+/// The texts, one after another.
+fn joined(alloc: Global, texts: &[Octets]) -> Result<Octets, NoMemory>
+    ensures { IfOk result (λ text. text ≡ flat_map (λ each. each) texts.now) }
+{
+    let mut out = Octets::new(alloc);
+    for text in texts {
+        out.append(text.as_slice())?;
+    }
+    Ok(out)
+}
+
+/// The tables of devices, each of its image: as many as both lists have. They are told in as many threads as there are processors.
+pub fn tables_text<R: Threads + Sync>(
+    rt: &R,
+    alloc: Global,
+    devices: &[IndAddr],
+    images: &[Image],
+) -> Result<Octets, NoMemory>
+    ensures { IfOk result (λ text. text ≡ flat_map (λ c. tables_lines c.0 c.1) (zip devices.now images.now)) }
+{
+    let texts = each_tables(rt, alloc, devices, images)?;
+    joined(alloc, texts.as_slice())
 }

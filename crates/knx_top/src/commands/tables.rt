@@ -22,7 +22,7 @@ fn tables_text<R: Threads + Sync>(
     ensures { IfOk result (λ text. IsTablesText checked.now text) }
 {
     let images = compile_all(rt, alloc, checked)?;
-    let text = report_text::tables_text(alloc, checked.devices(), images.as_slice())?;
+    let text = report_text::tables_text(rt, alloc, checked.devices(), images.as_slice())?;
     Ok(text)
 }
 
