@@ -23,6 +23,7 @@ pub mod Delivered
 pub mod Carriages
 pub mod Turning
 pub mod NextEvents
+pub mod Resting
 pub mod Polling
 pub mod Later
 pub mod Repeats

@@ -2,18 +2,20 @@
 use Rattle.std.proofs.Common.{◌≡◌, ℕ, suc, ◌+◌, ◌-◌, ◌^◌, ◌<◌, ◌≤◌, ◌∷◌, length, take, Option, Some, None, Result, Ok, Err, OnErr, refl, ap, sym, subst, ◌∙◌, arith}
 use Rattle.std.specs.Prelude.{slice_get}
 use Rattle.std.proofs.lemmas.List.{take_all}
+use Rattle.line_model.specs.Fresh.{Settled}
 use Rattle.line_model.specs.Legal.{MayHappen}
 use Rattle.line_model.specs.LinkStory.{Full, GoesOn, Polls, PollsFull}
 use Rattle.line_model.specs.Network.{Sent, OfSent}
 use Rattle.line_model.specs.Record.{Item, Got, Quiet, got}
 use Rattle.line_model.specs.Tunnel.{Commissions}
 use Rattle.line_model.specs.World.{World, Event, Down, Pass, now, replay}
+use Rattle.bus_sim.specs.declared.beginning.Beginning.{Beginning}
 use Rattle.bus_sim.specs.declared.clients.Clients.TheVariants.{One}
 use Rattle.tunnel_sim.specs.declared.gateway.Letter.{Letter}
 use Rattle.bus_sim.specs.Begun.{mode_of, start_of}
 use Rattle.bus_sim.specs.Polls.{EndedSo, GoesOnFrom, StopsWithin}
 use Rattle.bus_sim.specs.RunNow.{RunNow, RunState, mode, seen, start, story, story_of, time, world as world_of}
-use Rattle.bus_sim.specs.Turns.{Gets, Happens, Passes}
+use Rattle.bus_sim.specs.Turns.{Gets, Happens, Passes, PassesQuietly}
 use Rattle.bus_sim.specs.Went.{Went, world}
 use Rattle.bus_sim.proofs.Grows.{timeless, passes}
 use Rattle.bus_sim.proofs.Turning.{goes_more, goes_past}
@@ -107,23 +109,37 @@ ends_got old mid new letter left wait longer one before h le =
         ends = no_later (now (replay (start (seen old)) (Down h.age ∷ mid.events))) (now (world old)) wait longer
             (in_wait (now (world mid)) (now (replay (start (seen old)) (Down h.age ∷ mid.events))) left (now (world old)) wait before.1
             (timeless (replay (start (seen old)) mid.events) (Down h.age) refl ∙ sym (ap now sameworld))) le;
+        settled = tt;
       }),
     )
 
-pub ends_quiet : (old mid new : RunState) (left wait : ℕ) → old.begun.clients ≡ One → GoesOnFrom old mid × (now (world mid) + left ≡ now (world old) + wait) → Passes left mid new → EndedSo None wait old new
+-- the line that one client sees is settled
+settled_one : (old mid new : RunState) (e : Event) → old.begun.clients ≡ One → mid.begun ≡ old.begun → Went mid e new → Settled (mode (seen mid)) (world new) → Settled Commissions (replay (start (seen old)) (e ∷ mid.events))
+settled_one old mid new e one same went settled =
+    let here : Settled (mode (seen mid)) (replay (start (seen mid)) (e ∷ mid.events)) = subst (λ (r : RunNow). Settled (mode (seen mid)) (world_of r)) went settled in
+    subst (λ c. Settled (mode_of c) (replay (start_of old.begun) (e ∷ mid.events))) one (subst (λ (b : Beginning). Settled (mode_of b.clients) (replay (start_of b) (e ∷ mid.events))) same here)
+
+pub ends_quiet : (old mid new : RunState) (left wait : ℕ) → old.begun.clients ≡ One → GoesOnFrom old mid × (now (world mid) + left ≡ now (world old) + wait) → PassesQuietly left mid new → EndedSo None wait old new
 ends_quiet old mid new left wait one before h =
     let sameworld : world mid ≡ replay (start (seen old)) mid.events = ap (λ b. replay (start_of b) mid.events) before.0.same in
-    ended old mid new (Pass left) Quiet wait one before.0 h.went (record {
+    ended old mid new (Pass left) Quiet wait one before.0 h.passes.went (record {
       events = mid.events;
       foreign = before.0.goes;
       last = Pass left;
-      legal = may_one old mid (Pass left) one before.0.same h.may;
+      legal = may_one old mid (Pass left) one before.0.same h.passes.may;
       brings = refl;
       all = refl;
       ends = passes (replay (start (seen old)) mid.events) left ∙ sym (ap (λ w. now w + left) sameworld) ∙ before.1;
+      settled = settled_one old mid new (Pass left) one before.0.same h.passes.went h.ends;
     })
 
--- and the wait has passed
-pub ends_passed : (old mid new : RunState) (left wait : ℕ) → old.begun.clients ≡ One → GoesOnFrom old mid × (now (world mid) + left ≡ now (world old) + wait) → 0 < left → Passes left mid new
-    → GoesOnFrom old new × (time (seen new) ≡ time (seen old) + wait)
-ends_passed old mid new left wait one before some h = (goes_past old mid new left one before.0 some h, passed mid new left h ∙ before.1)
+-- ---- a run that has come to its end
+
+pub over_at : (old mid new : RunState) (left wait : ℕ) → old.begun.clients ≡ One → GoesOnFrom old mid × (now (world mid) + left ≡ now (world old) + wait) → 0 < left → PassesQuietly left mid new
+    → GoesOnFrom old new × (now (world new) + 0 ≡ now (world old) + wait)
+over_at old mid new left wait one before some h =
+    let goes : GoesOnFrom old new × (now (world new) + (left - left) ≡ now (world old) + wait) = time_goes old mid new left left wait one before some (as_many left) h.passes in
+    (goes.0, let e = goes.1 in omega arith)
+  where
+    as_many : (n : ℕ) → n ≤ n
+    as_many n = omega arith

@@ -1,4 +1,5 @@
--- What a poll of a run does: events that are not the client's, and then the datagram that it gets, within the wait, or the end of the wait.
+-- What a poll of a run does: events that are not the client's, and then the datagram that it gets, within the wait, or the end of the
+-- wait, at which nothing is due.
 use Rattle.std.specs.Prelude.{◌≡◌, ℕ, ◌+◌, ◌<◌, ◌≤◌, List, length, Option, Some, None}
 use Rattle.line_model.specs.declared.outside.link.Polled.{Polled}
 use Rattle.line_model.specs.LinkStory.{GoesOn, Polls}
@@ -30,10 +31,6 @@ abbrev pub EndedSo : Option (List ℕ) → ℕ → RunState → RunState → Typ
 EndedSo (Some octets) wait old new = (length octets ≤ 300) × Polls (Got octets) wait (time (seen new)) (story (seen old)) (story (seen new))
 EndedSo None wait old new = Polls Quiet wait (time (seen new)) (story (seen old)) (story (seen new))
 
--- what it got within some time it got within each longer wait; and where it got nothing, that time has passed
+-- what it got within some time it got within each longer wait
 abbrev pub GotWithin : ℕ → List ℕ → RunState → RunState → Type 0
 GotWithin left octets old new = (wait : ℕ) → left ≤ wait → EndedSo (Some octets) wait old new
-
-abbrev pub PassedSo : Option (List ℕ) → ℕ → RunState → RunState → Type 0
-PassedSo (Some octets) wait old new = GotWithin wait octets old new
-PassedSo None wait old new = 0 < wait → GoesOnFrom old new × (time (seen new) ≡ time (seen old) + wait)

@@ -35,8 +35,13 @@ pub record Passes (ms : ℕ) (old new : RunState) : Type 0 where
   pub went : Went old (Pass ms) new
   pub may : MayHappen (mode (seen old)) (world old) (Pass ms)
 
+-- and nothing is due when they are over
+pub record PassesQuietly (ms : ℕ) (old new : RunState) : Type 0 where
+  pub passes : Passes ms old new
+  pub ends : Settled (mode (seen old)) (world new)
+
 abbrev pub Turns : Turn → ℕ → RunState → RunState → Type 0
 Turns (Got letter) left old new = Gets letter old new
 Turns HasGone left old new = Happens old new
-Turns (Passed ms) left old new = (0 < ms) × (ms < left) × Passes ms old new
-Turns Quiet left old new = Passes left old new
+Turns (Passed ms) left old new = (0 < ms) × (ms ≤ left) × Passes ms old new
+Turns Quiet left old new = PassesQuietly left old new

@@ -120,12 +120,13 @@ impl Run {
         ensures turns { IfOk result (λ turn. Turns turn left self.old self.new) }
         ensures err { OnErr result (Stays self.old self.new) }
     {
+        self.keeps();
         let ms = self.still_for(left);
         self.pass(ms)?;
-        if ms < left {
-            Ok(Turn::Passed(ms))
-        } else {
+        if self.is_over(left, ms) {
             Ok(Turn::Quiet)
+        } else {
+            Ok(Turn::Passed(ms))
         }
     }
 }

@@ -1,10 +1,10 @@
 //! What is next where the script calls for nothing, and that it happens.
 
-ghost use Rattle.std.specs.Prelude.{◌≡◌, ℕ, ◌≤◌, Some, None, OnOk, OnErr, IfSome, IfNone, IfOk, IsTrue, IsFalse, slice_get, ◌+◌, ◌⊎◌};
+ghost use Rattle.std.specs.Prelude.{◌≡◌, ℕ, ◌≤◌, Some, None, OnOk, OnErr, IfSome, IfNone, IfOk, IsTrue, IsFalse, slice_get, ◌+◌, ◌⊎◌, ◌↔◌};
 ghost use Rattle.knx_model.specs.declared.device.Sending.TheVariants.{Repeat};
 ghost use Rattle.knx_model.specs.Connection.{last_time};
 ghost use Rattle.line_model.specs.Deliveries.{next_up, next_down};
-ghost use Rattle.line_model.specs.Fresh.{Settled};
+ghost use Rattle.line_model.specs.Fresh.{HasNothingToSend, Settled};
 ghost use Rattle.line_model.specs.Gateway.{gateway_expired};
 ghost use Rattle.line_model.specs.Legal.{MayHappen};
 ghost use Rattle.line_model.specs.Network.{OfSent};
@@ -165,6 +165,13 @@ impl Run {
             Sending::Repeat => self.dev_repeat(device),
             Sending::Closing => self.dev_close(device),
         }
+    }
+
+    /// Whether a wait is over, of which so much was left and so much has passed since: nothing is due at its end.
+    pub fn is_over(&self, left: u32, passed: u32) -> bool
+        ensures { IsTrue result ↔ ((passed ≡ left) × HasNothingToSend (world self.now) (now (world self.now))) }
+    {
+        (passed == left) & self.line.has_nothing_to_send()
     }
 
     /// How long it stays so where nothing but time can go on, so many milliseconds at most.

@@ -147,6 +147,7 @@ fn is_possible(line: &Line, clients: Clients, owed: Owed) -> bool
         Owed::DeliverAgain(number) => line.again_up(number).is_some(),
         Owed::ReachAgain(number) => again_down(line, clients, number).is_some(),
         Owed::BringAgain(device) => line.last(device).is_some(),
-        Owed::PowerReturns(_) | Owed::ConnectionCloses(_) | Owed::ChannelCloses => true,
+        Owed::ConnectionCloses(device) => line.is_connected(device),
+        Owed::PowerReturns(_) | Owed::ChannelCloses => true,
     }
 }

@@ -4,7 +4,7 @@ ghost use Rattle.std.specs.Prelude.{◌≡◌, ◌+◌, ◌≤◌, ◌<◌, ◌�
 ghost use Rattle.knx_model.specs.Connection.{last_time};
 ghost use Rattle.line_model.specs.World.{now};
 ghost use Rattle.bus_sim.specs.Ended.{StopsFor};
-ghost use Rattle.bus_sim.specs.Polls.{EndedSo, GotWithin, PassedSo, PolledSo, StopsWithin};
+ghost use Rattle.bus_sim.specs.Polls.{EndedSo, GotWithin, PolledSo, StopsWithin};
 ghost use Rattle.bus_sim.specs.RunNow.{seen};
 ghost use Rattle.bus_sim.specs.Went.{world};
 ghost use Rattle.bus_sim.specs.declared.clients.Clients.TheVariants.{One};
@@ -54,30 +54,33 @@ impl Run {
         shorter(wait, u64::MAX - self.now())
     }
 
-    /// What the client gets until the last time, so many milliseconds from now.
-    fn run_to_end(&mut self, left: u32) -> Result<Datagram, Stopped>
+    /// What the client gets until the last time, so many milliseconds from now. What would be due at that time isn't done any more.
+    fn run_to_end(&mut self, wait: u32) -> Result<Datagram, Stopped>
         requires one { self.old.begun.clients ≡ One }
-        requires end { now (world self.old) + left ≡ last_time }
-        ensures got { IfOk result (λ octets. GotWithin left octets self.old self.new) }
-        ensures err { OnErr result (StopsWithin left self.old self.new) }
+        requires end { now (world self.old) + wait ≡ last_time }
+        ensures got { IfOk result (λ octets. GotWithin wait octets self.old self.new) }
+        ensures err { OnErr result (StopsWithin wait self.old self.new) }
         ensures cause { IfErr result (λ why. StopsFor why (seen self.new)) }
         ensures begun { self.new.begun ≡ self.old.begun }
     {
-        if left == 0 {
-            return Err(Stopped::AtEnd);
+        let mut left = wait;
+        while left > 0 {
+            self.few();
+            match self.turn(left)? {
+                Turn::Got(letter) => return Ok(letter.octets),
+                Turn::Went => {}
+                Turn::Passed(ms) => left -= ms,
+                Turn::Quiet => left = 0,
+            }
         }
-        match self.run_for(left)? {
-            Some(octets) => Ok(octets),
-            None => Err(Stopped::AtEnd),
-        }
+        Err(Stopped::AtEnd)
     }
 
-    /// What the client gets within so many milliseconds; None where it gets nothing, and they have passed.
+    /// What the client gets within so many milliseconds; None where it gets nothing, they have passed and nothing is due.
     fn run_for(&mut self, wait: u32) -> Result<Option<Datagram>, NoMemory>
         requires one { self.old.begun.clients ≡ One }
         requires time { now (world self.old) + wait ≤ last_time }
         ensures ended { IfOk result (λ got. EndedSo got wait self.old self.new) }
-        ensures passed { IfOk result (λ got. PassedSo got wait self.old self.new) }
         ensures err { OnErr result (StopsWithin wait self.old self.new) }
         ensures begun { self.new.begun ≡ self.old.begun }
     {

@@ -22,14 +22,15 @@ pub enum Turn {
     Went,
     /// So many milliseconds passed, at least one, until something was due.
     Passed(u32),
-    /// The rest of the wait passed.
+    /// The rest of the wait passed, and nothing is due at its end.
     Quiet,
 }
 
 impl Run {
     /// One turn of the line, while so much of a wait is left. What the script calls for goes first; then a datagram to the client, one to the
     /// gateway, a frame that waits for the bus, what the gateway has due, and the device with the least address that has something to send.
-    /// Where there is none of these, time passes, until something is due or the wait is over. At `Err` nothing has happened.
+    /// Where there is none of these, time passes, until something is due or the wait is over. What is due just when the wait is over is left for a
+    /// turn without one. At `Err` nothing has happened.
     pub fn turn(&mut self, left: u32) -> Result<Turn, NoMemory>
         requires { now (world self.old) + left ≤ last_time }
         ensures turns { IfOk result (λ turn. Turns turn left self.old self.new) }

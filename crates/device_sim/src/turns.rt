@@ -1,8 +1,8 @@
 //! When a device sends, and what.
 
-ghost use Rattle.std.specs.Prelude.{◌≡◌, [], Some, OnOk, OnErr, ◌↔◌, IsTrue};
+ghost use Rattle.std.specs.Prelude.{◌≡◌, [], Some, OnOk, OnErr, ◌↔◌, IsTrue, is_some};
 ghost use Rattle.knx_model.specs.declared.device.Sending.{Sending as Way};
-ghost use Rattle.knx_model.specs.DeviceConnection.{device_expired};
+ghost use Rattle.knx_model.specs.DeviceConnection.{device_expired, partner_of};
 ghost use Rattle.knx_model.specs.DeviceSending.{due_sending, next_sending, sending_frame, after_sending, waiting_frame, pops, repeat_frame, repeats, shut};
 ghost use Rattle.device_sim.specs.Sending.{IsQuiet};
 
@@ -20,6 +20,13 @@ impl Device {
         ensures { IsTrue result ↔ IsQuiet self.now }
     {
         self.connection.partner().is_none() && self.unsent.is_empty()
+    }
+
+    /// Whether it has a connection.
+    pub fn is_connected(&self) -> bool
+        ensures { result ≡ is_some (partner_of self.now.connection) }
+    {
+        self.connection.partner().is_some()
     }
 
     /// The frame that waits longest to be sent; None exactly where none waits.

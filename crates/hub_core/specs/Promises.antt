@@ -4,14 +4,14 @@ use Rattle.std.specs.Prelude.{◌≡◌, ℕ, ◌^◌, ◌-◌, min, length, Lis
 use Rattle.line_model.specs.declared.fault.HubFault.{HubFault}
 use Rattle.line_model.specs.declared.group.GroupTurn.{GroupTurn}
 use Rattle.line_model.specs.declared.log.LogEntry.{LogEntry}
-use Rattle.line_model.specs.Record.{Entry, placed, counted}
+use Rattle.line_model.specs.Record.{Entry, entries, placed, counted}
 use Rattle.line_model.specs.LinkStory.{Story, Untold, Recorded, Full, clock_of}
 use Rattle.line_model.specs.Log.{Job}
 use Rattle.line_model.specs.Dropped.{dropped}
 use Rattle.line_model.specs.Faults.{FaultRight}
 use Rattle.line_model.specs.Haste.{HastenBy}
 use Rattle.line_model.specs.Headline.{IsRight}
-use Rattle.line_model.specs.Leaves.{LeavesRightly}
+use Rattle.line_model.specs.Leaves.{LeavesRightly, parting_of}
 use Rattle.line_law.specs.Safe.{IsSafe, KeepsSafe}
 use Rattle.tunnel_link.specs.Adds.{place_of}
 use Rattle.tunnel_link.specs.Rights.{WhereTold}
@@ -41,6 +41,10 @@ TellsIn jobs turns log story = WhereTold (TellsAndAsks jobs turns log (place_of 
 -- it lost no time: of what is said of it, what its link's clock allows
 abbrev pub HastensIn : List Job → List GroupTurn → List LogEntry → Story → Type 0
 HastensIn jobs turns log story = WhereTold (HastenBy (clock_of story) jobs turns log) story
+
+-- the gateway was told of each loss of the channel
+abbrev pub HasParted : Story → Type 0
+HasParted story = WhereTold (λ places. parting_of (entries places) ≡ None) story
 
 -- of the record, where it is told
 abbrev pub FaultRightIn : List Job → List LogEntry → Option HubFault → Option (List Entry) → Type 0

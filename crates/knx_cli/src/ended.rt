@@ -5,12 +5,10 @@ ghost use Rattle.call_words.specs.declared.stop.Stop.TheVariants.{Usage, NoMemor
 ghost use Rattle.knx_model.specs.Outside.{one_more};
 ghost use Rattle.call_words.specs.Statuses.{status_number};
 ghost use Rattle.call_parts.specs.declared.ending.End.TheVariants.{Stops};
-ghost use Rattle.knx_top.specs.Call.{AtMostOneRose, HasRunOf, files_of, touches, touches_units};
+ghost use Rattle.knx_top.specs.Call.{AtMostOneRose, RunsRightly, files_of, touches, touches_units};
 ghost use Rattle.knx_top.specs.Command.{asked, Assign as AskedAssign, AssignSim as AskedAssignSim, Big as AskedBig, Check as AskedCheck, Decode as AskedDecode, Download as AskedDownload, Find as AskedFind, Gateway as AskedGateway, Sim as AskedSim, Tables as AskedTables};
 ghost use Rattle.call_parts.specs.Ending.{Replies};
-ghost use Rattle.knx_top.specs.Headline.{ActsOnce, BeganRightly, ClosesToItsEnd, EndsEveryJob, EndsThoroughly, HasFaultRight, HasLostNoTime, HasOldStoppedOrNew, HasTelegramsRight, IsOfItsWorkers, IsToldRightly, LeavesItsChannel, RunsWhereDone};
 ghost use Rattle.knx_top.specs.Ran.{FaultsOfLine};
-ghost use Rattle.knx_top.specs.Undisturbed.{EndsUndisturbed};
 ghost use Rattle.knx_top.specs.Watched.{TellsWatcher, is_quiet};
 ghost use Rattle.line_model.specs.Watched.{watch_in};
 ghost use Rattle.knx_top.specs.commands.Assign.{AssignSimWords, AssignWords, RunsAssign, RunsAssignSim};
@@ -78,20 +76,7 @@ pub fn status_of<
     ensures assign { IfOk words.now (λ words. (names : AssignWords) → asked (map string_bytes words.items) ≡ Some (AskedAssign names) → RunsAssign names (D.now dial.old) (D.now dial.new) (Replies (K.now out.old) (K.now out.new) (status_of result))) }
     ensures assign_sim { IfOk words.now (λ words. (names : AssignSimWords) → asked (map string_bytes words.items) ≡ Some (AskedAssignSim names) → RunsAssignSim names (F.now files.old) (F.now files.new) units.old units.new (Replies (K.now out.old) (K.now out.new) (status_of result))) }
     ensures big { IfOk words.now (λ words. (names : BigWords) → asked (map string_bytes words.items) ≡ Some (AskedBig names) → RunsMade names sim.old (record { line = sim.new; report = last.new }) (Replies (K.now out.old) (K.now out.new) (status_of result))) }
-    ensures begins { IfOk words.now (λ words. HasRunOf BeganRightly (map string_bytes words.items) (F.now files.old) sim.old (record { line = sim.new; report = last.new })) }
-    ensures old_stopped_or_new { IfOk words.now (λ words. HasRunOf HasOldStoppedOrNew (map string_bytes words.items) (F.now files.old) sim.old (record { line = sim.new; report = last.new })) }
-    ensures telegrams { IfOk words.now (λ words. HasRunOf HasTelegramsRight (map string_bytes words.items) (F.now files.old) sim.old (record { line = sim.new; report = last.new })) }
-    ensures done { IfOk words.now (λ words. HasRunOf RunsWhereDone (map string_bytes words.items) (F.now files.old) sim.old (record { line = sim.new; report = last.new })) }
-    ensures once { IfOk words.now (λ words. HasRunOf ActsOnce (map string_bytes words.items) (F.now files.old) sim.old (record { line = sim.new; report = last.new })) }
-    ensures told { IfOk words.now (λ words. HasRunOf IsToldRightly (map string_bytes words.items) (F.now files.old) sim.old (record { line = sim.new; report = last.new })) }
-    ensures thorough { IfOk words.now (λ words. HasRunOf EndsThoroughly (map string_bytes words.items) (F.now files.old) sim.old (record { line = sim.new; report = last.new })) }
-    ensures hastens { IfOk words.now (λ words. HasRunOf HasLostNoTime (map string_bytes words.items) (F.now files.old) sim.old (record { line = sim.new; report = last.new })) }
-    ensures undisturbed { IfOk words.now (λ words. HasRunOf (EndsUndisturbed (status_of result)) (map string_bytes words.items) (F.now files.old) sim.old (record { line = sim.new; report = last.new })) }
-    ensures leaves { IfOk words.now (λ words. HasRunOf LeavesItsChannel (map string_bytes words.items) (F.now files.old) sim.old (record { line = sim.new; report = last.new })) }
-    ensures fault { IfOk words.now (λ words. HasRunOf HasFaultRight (map string_bytes words.items) (F.now files.old) sim.old (record { line = sim.new; report = last.new })) }
-    ensures over { IfOk words.now (λ words. HasRunOf EndsEveryJob (map string_bytes words.items) (F.now files.old) sim.old (record { line = sim.new; report = last.new })) }
-    ensures closed { IfOk words.now (λ words. HasRunOf ClosesToItsEnd (map string_bytes words.items) (F.now files.old) sim.old (record { line = sim.new; report = last.new })) }
-    ensures seats { IfOk words.now (λ words. HasRunOf IsOfItsWorkers (map string_bytes words.items) (F.now files.old) sim.old (record { line = sim.new; report = last.new })) }
+    ensures run { IfOk words.now (λ words. RunsRightly (status_of result) (map string_bytes words.items) (F.now files.old) sim.old (record { line = sim.new; report = last.new })) }
     ensures link { IfOk words.now (λ words. (touches (asked (map string_bytes words.items))).line ≡ true → FaultsOfLine last.new sim.new) }
     ensures line { IfOk words.now (λ words. (touches (asked (map string_bytes words.items))).line ≡ false → sim.new ≡ sim.old) }
     ensures undialled { IfOk words.now (λ words. (touches (asked (map string_bytes words.items))).network ≡ false → dial.new ≡ dial.old) }

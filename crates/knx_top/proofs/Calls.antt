@@ -1,15 +1,17 @@
 -- A whole call: what its command does and what is written of its end come to each clause of `knx`.
 use Rattle.std.proofs.Common.{◌≡◌, true, false, List, Option, Some, None, ◌⊎◌, refl, sym, ◌∙◌, subst, ℕ}
 use Rattle.std.specs.Prelude.{IfSome}
-use Rattle.knx_top.specs.Call.{AtMostOneRose, AtPort, Does, Elsewhere, HasRun, HasRunMade, HasRunOf, NoRun, Outside, left_in, touches}
+use Rattle.knx_top.specs.Call.{AtMostOneRose, AtPort, Does, Elsewhere, HasRun, HasRunMade, NoRun, Outside, RunsRightly, left_in, touches}
 use Rattle.bus_sim.specs.Loaded.{BusNow}
 use Rattle.knx_top.specs.Command.{Assign, AssignSim, Big, Check, Command, Decode, Find, Gateway, Sim, Tables, asked, Download}
 use Rattle.call_parts.specs.declared.ending.End.{End}
+use Rattle.knx_top.specs.Headline.{KeepsHeadline}
 use Rattle.knx_top.specs.Ran.{FaultsOfLine, Ran, Left, Commission}
 use Rattle.knx_model.specs.Counts.{counts_of}
 use Rattle.knx_model.specs.Outside.{FilesNow}
 use Rattle.call_parts.specs.Ending.{Is, report_in, wanting}
 use Rattle.call_words.specs.declared.job_word.JobWord.{JobWord}
+use Rattle.call_words.specs.declared.status.Status.{Status}
 use Rattle.line_model.specs.declared.log.Report.{Report}
 use Rattle.bus_sim.specs.RunNow.{RunNow}
 use Rattle.call_parts.specs.Input.{failed, first_some}
@@ -145,72 +147,63 @@ faults_in (Some (Big words)) before after Replied does = (None, does.1)
 
 -- ---- what is so of each run
 
--- P is so of each run that a commission describes, whose report is told so
-abbrev OfEach : (Commission → RunNow → Report → Type 0) → (Report → Type 0) → Type 0
-OfEach P Told = (c : Commission) (r : RunNow) (report : Report) (jobs : List JobWord) → Ran c r report jobs → Told report → P c r report
+-- each run that a commission describes keeps the headline, where its report is told so
+abbrev OfEach : Status → (Report → Type 0) → Type 0
+OfEach ending Told = (c : Commission) (r : RunNow) (report : Report) (jobs : List JobWord) → Ran c r report jobs → Told report → KeepsHeadline ending c r report
 
 -- the report of an end is told so
 abbrev pub TellsIts : (Report → Type 0) → End → Type 0
 TellsIts Told end = IfSome (report_in end) Told
 
-begun_of : (P : Commission → RunNow → Report → Type 0) (Told : Report → Type 0) → OfEach P Told
+begun_of : (ending : Status) (Told : Report → Type 0) → OfEach ending Told
     → (words : List (List ℕ)) (names : SimWords) (files : FilesNow) (before : BusNow) (after : Left) (texts : SimTexts) (end : End) → after.report ≡ report_in end → TellsIts Told end
-    → asked words ≡ Some (Sim names) → SimIsRead files.file names texts → first_some (sim_tests names texts) ≡ None → Runs (commission_told names texts) before after.line end → HasRunOf P words files before after
-begun_of P Told get words names files before after texts (ends.Stops told) report tells e is passes runs = NoRun (record { line = runs.1; report = report })
-begun_of P Told get words names files before after texts (ends.Tells text) report tells e is passes runs = absurd runs
-begun_of P Told get words names files before after texts ends.NotOpened report tells e is passes runs = absurd runs
-begun_of P Told get words names files before after texts (ends.BreaksOff told want) report tells e is passes runs = HasRun names texts told e is passes report (get (commission_told names texts) after.line.run told runs.0 runs.1 tells)
-begun_of P Told get words names files before after texts (ends.Reports told) report tells e is passes runs = HasRun names texts told.report e is passes report (get (commission_told names texts) after.line.run told.report told.jobs runs.ran tells)
-begun_of P Told get words names files before after texts (ends.Sums told counts) report tells e is passes runs = absurd runs
-begun_of P Told get words names files before after texts (ends.Serves served) report tells e is passes runs = absurd runs
-begun_of P Told get words names files before after texts (ends.Finds searched) report tells e is passes runs = absurd runs
-begun_of P Told get words names files before after texts (ends.Assigns given) report tells e is passes runs = absurd runs
+    → asked words ≡ Some (Sim names) → SimIsRead files.file names texts → first_some (sim_tests names texts) ≡ None → Runs (commission_told names texts) before after.line end → RunsRightly ending words files before after
+begun_of ending Told get words names files before after texts (ends.Stops told) report tells e is passes runs = NoRun (record { line = runs.1; report = report })
+begun_of ending Told get words names files before after texts (ends.Tells text) report tells e is passes runs = absurd runs
+begun_of ending Told get words names files before after texts ends.NotOpened report tells e is passes runs = absurd runs
+begun_of ending Told get words names files before after texts (ends.BreaksOff told want) report tells e is passes runs = HasRun names texts told e is passes report (get (commission_told names texts) after.line.run told runs.0 runs.1 tells)
+begun_of ending Told get words names files before after texts (ends.Reports told) report tells e is passes runs = HasRun names texts told.report e is passes report (get (commission_told names texts) after.line.run told.report told.jobs runs.ran tells)
+begun_of ending Told get words names files before after texts (ends.Sums told counts) report tells e is passes runs = absurd runs
+begun_of ending Told get words names files before after texts (ends.Serves served) report tells e is passes runs = absurd runs
+begun_of ending Told get words names files before after texts (ends.Finds searched) report tells e is passes runs = absurd runs
+begun_of ending Told get words names files before after texts (ends.Assigns given) report tells e is passes runs = absurd runs
 
-tested : (P : Commission → RunNow → Report → Type 0) (Told : Report → Type 0) → OfEach P Told
+tested : (ending : Status) (Told : Report → Type 0) → OfEach ending Told
     → (tests : Option Stop) (words : List (List ℕ)) (names : SimWords) (files files' : FilesNow) (before : BusNow) (after : Left) (Replied : End → Type 0) → ((end : End) → Replied end → TellsIts Told end) → (run : RunsScript names files files' before after Replied)
-    → first_some (sim_tests names run.texts) ≡ tests → asked words ≡ Some (Sim names) → HasRunOf P words files before after
-tested P Told get (Some why) words names files files' before after Replied tells run t e = NoRun (record { line = (run.stops why t).1; report = run.report ∙ stopped_report why run.end (run.stops why t).0 })
-tested P Told get None words names files files' before after Replied tells run t e = begun_of P Told get words names files before after run.texts run.end run.report (tells run.end run.replied) e run.is_read t (run.runs t)
+    → first_some (sim_tests names run.texts) ≡ tests → asked words ≡ Some (Sim names) → RunsRightly ending words files before after
+tested ending Told get (Some why) words names files files' before after Replied tells run t e = NoRun (record { line = (run.stops why t).1; report = run.report ∙ stopped_report why run.end (run.stops why t).0 })
+tested ending Told get None words names files files' before after Replied tells run t e = begun_of ending Told get words names files before after run.texts run.end run.report (tells run.end run.replied) e run.is_read t (run.runs t)
 
-made_of : (P : Commission → RunNow → Report → Type 0) (Told : Report → Type 0) → OfEach P Told
-    → (words : List (List ℕ)) (names : BigWords) (files : FilesNow) (before : BusNow) (after : Left) (end : End) → after.report ≡ report_in end → TellsIts Told end → asked words ≡ Some (Big names) → Runs (commission_made names) before after.line end → HasRunOf P words files before after
-made_of P Told get words names files before after (ends.Stops told) report tells e runs = NoRun (record { line = runs.1; report = report })
-made_of P Told get words names files before after (ends.Tells text) report tells e runs = absurd runs
-made_of P Told get words names files before after ends.NotOpened report tells e runs = absurd runs
-made_of P Told get words names files before after (ends.BreaksOff told want) report tells e runs = HasRunMade names told e report (get (commission_made names) after.line.run told runs.0 runs.1 tells)
-made_of P Told get words names files before after (ends.Reports told) report tells e runs = HasRunMade names told.report e report (get (commission_made names) after.line.run told.report told.jobs runs.ran tells)
-made_of P Told get words names files before after (ends.Sums told counts) report tells e runs = absurd runs
-made_of P Told get words names files before after (ends.Serves served) report tells e runs = absurd runs
-made_of P Told get words names files before after (ends.Finds searched) report tells e runs = absurd runs
-made_of P Told get words names files before after (ends.Assigns given) report tells e runs = absurd runs
+made_of : (ending : Status) (Told : Report → Type 0) → OfEach ending Told
+    → (words : List (List ℕ)) (names : BigWords) (files : FilesNow) (before : BusNow) (after : Left) (end : End) → after.report ≡ report_in end → TellsIts Told end → asked words ≡ Some (Big names) → Runs (commission_made names) before after.line end → RunsRightly ending words files before after
+made_of ending Told get words names files before after (ends.Stops told) report tells e runs = NoRun (record { line = runs.1; report = report })
+made_of ending Told get words names files before after (ends.Tells text) report tells e runs = absurd runs
+made_of ending Told get words names files before after ends.NotOpened report tells e runs = absurd runs
+made_of ending Told get words names files before after (ends.BreaksOff told want) report tells e runs = HasRunMade names told e report (get (commission_made names) after.line.run told runs.0 runs.1 tells)
+made_of ending Told get words names files before after (ends.Reports told) report tells e runs = HasRunMade names told.report e report (get (commission_made names) after.line.run told.report told.jobs runs.ran tells)
+made_of ending Told get words names files before after (ends.Sums told counts) report tells e runs = absurd runs
+made_of ending Told get words names files before after (ends.Serves served) report tells e runs = absurd runs
+made_of ending Told get words names files before after (ends.Finds searched) report tells e runs = absurd runs
+made_of ending Told get words names files before after (ends.Assigns given) report tells e runs = absurd runs
 
-ran_in : (P : Commission → RunNow → Report → Type 0) (Told : Report → Type 0) → OfEach P Told
-    → (command : Option Command) (words : List (List ℕ)) (before after : Outside) (Replied : End → Type 0) → ((end : End) → Replied end → TellsIts Told end) → asked words ≡ command → Does command before after Replied → HasRunOf P words before.files before.line (left_in after)
-ran_in P Told get None words before after Replied tells e does = NoRun does.2
-ran_in P Told get (Some (Check names)) words before after Replied tells e does = NoRun does.1
-ran_in P Told get (Some (Tables names)) words before after Replied tells e does = NoRun does.1
-ran_in P Told get (Some (Sim names)) words before after Replied tells e does = tested P Told get _ words names before.files after.files before.line (left_in after) Replied tells does.0 refl e
-ran_in P Told get (Some (Decode word)) words before after Replied tells e does = NoRun does.2
-ran_in P Told get (Some (Download names)) words before after Replied tells e does = Elsewhere names e does.1
-ran_in P Told get (Some (Gateway names)) words before after Replied tells e does = AtPort names e does.1
-ran_in P Told get (Some (Find names)) words before after Replied tells e does = NoRun does.2
-ran_in P Told get (Some (Assign names)) words before after Replied tells e does = NoRun does.2
-ran_in P Told get (Some (AssignSim names)) words before after Replied tells e does = NoRun does.1
-ran_in P Told get (Some (Big names)) words before after Replied tells e does =
+ran_in : (ending : Status) (Told : Report → Type 0) → OfEach ending Told
+    → (command : Option Command) (words : List (List ℕ)) (before after : Outside) (Replied : End → Type 0) → ((end : End) → Replied end → TellsIts Told end) → asked words ≡ command → Does command before after Replied → RunsRightly ending words before.files before.line (left_in after)
+ran_in ending Told get None words before after Replied tells e does = NoRun does.2
+ran_in ending Told get (Some (Check names)) words before after Replied tells e does = NoRun does.1
+ran_in ending Told get (Some (Tables names)) words before after Replied tells e does = NoRun does.1
+ran_in ending Told get (Some (Sim names)) words before after Replied tells e does = tested ending Told get _ words names before.files after.files before.line (left_in after) Replied tells does.0 refl e
+ran_in ending Told get (Some (Decode word)) words before after Replied tells e does = NoRun does.2
+ran_in ending Told get (Some (Download names)) words before after Replied tells e does = Elsewhere names e does.1
+ran_in ending Told get (Some (Gateway names)) words before after Replied tells e does = AtPort names e does.1
+ran_in ending Told get (Some (Find names)) words before after Replied tells e does = NoRun does.2
+ran_in ending Told get (Some (Assign names)) words before after Replied tells e does = NoRun does.2
+ran_in ending Told get (Some (AssignSim names)) words before after Replied tells e does = NoRun does.1
+ran_in ending Told get (Some (Big names)) words before after Replied tells e does =
     let run = does.0 in
     let told : TellsIts Told run.end = subst (λ (report : Option Report). IfSome report Told) (report_summed (counts_of (made names)) run.end) (tells (summed (counts_of (made names)) run.end) run.replied) in
-    made_of P Told get words names before.files before.line (left_in after) run.end run.report told e run.runs
+    made_of ending Told get words names before.files before.line (left_in after) run.end run.report told e run.runs
 
 -- what is so of each run whose report is told as what is written tells it is so of the call's
-pub ran_told_of : (P : Commission → RunNow → Report → Type 0) (Told : Report → Type 0) → ((c : Commission) (r : RunNow) (report : Report) (jobs : List JobWord) → Ran c r report jobs → Told report → P c r report)
-    → (words : List (List ℕ)) (before after : Outside) (Replied : End → Type 0) → ((end : End) → Replied end → TellsIts Told end) → Does (asked words) before after Replied → HasRunOf P words before.files before.line (left_in after)
-ran_told_of P Told get words before after Replied tells does = ran_in P Told get (asked words) words before after Replied tells refl does
-
-anyhow : (report : Option Report) → IfSome report (λ _. Unit {0})
-anyhow None = tt
-anyhow (Some report) = tt
-
--- what is so of each run that a commission describes is so of the call's
-pub ran_of : (P : Commission → RunNow → Report → Type 0) → ((c : Commission) (r : RunNow) (report : Report) (jobs : List JobWord) → Ran c r report jobs → P c r report)
-    → (words : List (List ℕ)) (before after : Outside) (Replied : End → Type 0) → Does (asked words) before after Replied → HasRunOf P words before.files before.line (left_in after)
-ran_of P get words before after Replied does = ran_told_of P (λ _. Unit {0}) (λ c r report jobs ran told. get c r report jobs ran) words before after Replied (λ end replied. anyhow (report_in end)) does
+pub ran_of : (ending : Status) (Told : Report → Type 0) → ((c : Commission) (r : RunNow) (report : Report) (jobs : List JobWord) → Ran c r report jobs → Told report → KeepsHeadline ending c r report)
+    → (words : List (List ℕ)) (before after : Outside) (Replied : End → Type 0) → ((end : End) → Replied end → TellsIts Told end) → Does (asked words) before after Replied → RunsRightly ending words before.files before.line (left_in after)
+ran_of ending Told get words before after Replied tells does = ran_in ending Told get (asked words) words before after Replied tells refl does

@@ -26,9 +26,8 @@ use Rattle.line_model.specs.Undisturbed as line
 use Rattle.report_text.specs.LineStatus.{line_status}
 use Rattle.knx_top.specs.Dialled.{FailsToOpen}
 use Rattle.call_parts.specs.Ending.{end_text, service_status, service_text}
-use Rattle.knx_top.specs.Headline.{OfItsJobs}
 use Rattle.call_parts.specs.Jobs.{AreJobs}
-use Rattle.knx_top.specs.Ran.{Commission, Left, log_in}
+use Rattle.knx_top.specs.Ran.{Commission, Left, OfItsJobs, log_in}
 use Rattle.knx_top.specs.Undisturbed.{AllServed}
 use Rattle.knx_top.specs.commands.Big.{BigWords}
 use Rattle.call_parts.specs.Project.{ProjectWords, project_tests}

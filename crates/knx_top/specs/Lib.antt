@@ -1,7 +1,7 @@
 pub mod Ran
 pub mod Shown
-pub mod Headline
 pub mod Undisturbed
+pub mod Headline
 pub mod Begun
 pub mod Dialled
 pub mod commands

@@ -68,9 +68,13 @@ pub record IsRunOf (c : Commission) (r : RunNow) : Type 0 where
 -- ---- the headline
 
 pub record KeepsPromises (c : Commission) (jobs : List Job) (r : RunNow) (log : List LogEntry) : Type 0 where
+  -- whatever is lost, repeated or cut, at every moment each device keeps its starting content, or is stopped, or runs what the new project says
   pub devices : OldStoppedOrNew (RunsMeaning c.project) jobs (start r) r.events log
+  -- each group telegram acts on exactly the objects that the running configuration links
   pub telegrams : TelegramsActRight (ActsByProject c.before c.project) (start r) r.events
+  -- done is told only where what the new project says runs
   pub done : MeansWhereDone c.project jobs (start r) r.events log
+  -- no tunnelling request acts twice
   pub once : ActedOnce (start r) r.events
 
 -- ---- what is told: by record and log alone
@@ -84,10 +88,17 @@ abbrev pub HasThreeTries : Option HubFault → Type 0
 HasThreeTries fault = (tries : List Try) → fault ≡ Some (GatewayRefused tries) → length tries ≡ 3
 
 pub record IsTold (c : Commission) (jobs : List Job) (r : RunNow) (report : Report) : Type 0 where
+  -- no device has two downloaders at once, the log tells no end that the record doesn't show, and all that is sent is right
   pub disciplined : IsDisciplined jobs c.turns (length r.events) (placed (start r) r.events) (log_in report)
+  -- an end is told only where no attempt of its job runs, no attempt begins once the last one has decided the job, and each loss of the channel is
+  -- followed by what is due to the gateway then, and by nothing more
   pub thorough : IsThorough jobs (placed (start r) r.events) (log_in report)
+  -- it loses no time: a poll lasts at most 100 ms, a heartbeat is in time, and no time passes while a job that has begun has something to send that
+  -- can be sent
   pub hastens : LosesNoTimes jobs c.turns (log_in report) (placed (start r) r.events)
+  -- the open channel isn't asked to end before all jobs are over, and then once, after the listening
   pub leaves : LeavesRightly jobs c.turns (log_in report) (placed (start r) r.events)
+  -- a fault has its cause in the record, want of memory and a failed link aside, and without one there is none in the end
   pub fault : FaultRight jobs (log_in report) (record_of (start r) r.events) report.fault
   pub tries : HasThreeTries report.fault
   -- the link failed only at the last time of 64 bits
@@ -117,6 +128,14 @@ pub record Ran (c : Commission) (r : RunNow) (report : Report) (words : List Job
   pub few_turns : length c.turns ≤ most_turns
   pub promises : KeepsPromises c jobs r (log_in report)
   pub told : IsTold c jobs r report
+
+-- P holds of the jobs of the run: those that the words name, or a load of each device, with the plans of the new project's compiled images
+pub record OfItsJobs (c : Commission) (P : List Job → Type 0) : Type 0 where
+  pub words : List JobWord
+  pub are : AreJobs c.options.jobs c.project words
+  pub jobs : List Job
+  pub planned : ArePlanned c.project jobs words
+  pub holds : P jobs
 
 -- ---- what a call leaves of it
 

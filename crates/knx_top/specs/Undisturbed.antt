@@ -26,8 +26,7 @@ use Rattle.line_model.specs.World.{World}
 use Rattle.calm_law.specs.CalmChecks.{RunsByThen}
 use Rattle.calm_law.specs.CalmCounts.{some_reads}
 use Rattle.calm_law.specs.CalmEnds.{Told, IsToldDone, IsToldRefused}
-use Rattle.knx_top.specs.Headline.{OfItsJobs}
-use Rattle.knx_top.specs.Ran.{Commission, log_in}
+use Rattle.knx_top.specs.Ran.{Commission, OfItsJobs, log_in}
 
 -- ---- the script and the projects
 

@@ -4,12 +4,10 @@ ghost use Rattle.std.specs.Prelude.{◌≡◌, ◌≤◌, ◌+◌, ℕ, List, No
 ghost use Rattle.call_words.specs.declared.stop.Stop.TheVariants.{Usage};
 ghost use Rattle.knx_model.specs.Outside.{one_more};
 ghost use Rattle.call_parts.specs.declared.ending.End.TheVariants.{Stops};
-ghost use Rattle.knx_top.specs.Call.{AtMostOneRose, Does, HasRunOf, files_of, touches, touches_units};
+ghost use Rattle.knx_top.specs.Call.{AtMostOneRose, Does, RunsRightly, files_of, touches, touches_units};
 ghost use Rattle.knx_top.specs.Command.{Assign as AskedAssign, AssignSim as AskedAssignSim, Big as AskedBig, Check as AskedCheck, Decode as AskedDecode, Download as AskedDownload, Find as AskedFind, Gateway as AskedGateway, Sim as AskedSim, Tables as AskedTables, asked, command_of};
 ghost use Rattle.call_parts.specs.Ending.{Is, Replies, report_in};
-ghost use Rattle.knx_top.specs.Headline.{ActsOnce, BeganRightly, ClosesToItsEnd, EndsEveryJob, EndsThoroughly, HasFaultRight, HasLostNoTime, HasOldStoppedOrNew, HasTelegramsRight, IsOfItsWorkers, IsToldRightly, LeavesItsChannel, RunsWhereDone};
 ghost use Rattle.knx_top.specs.Ran.{FaultsOfLine};
-ghost use Rattle.knx_top.specs.Undisturbed.{EndsUndisturbed};
 ghost use Rattle.knx_top.specs.Watched.{TellsWatcher, is_quiet};
 ghost use Rattle.line_model.specs.Watched.{watch_in};
 ghost use Rattle.knx_top.specs.commands.Assign.{AssignSimWords, AssignWords, RunsAssign, RunsAssignSim};
@@ -156,35 +154,10 @@ pub fn knx<
     ensures assign_sim { (names : AssignSimWords) → asked (map string_bytes words.now) ≡ Some (AskedAssignSim names) → RunsAssignSim names (F.now files.old) (F.now files.new) units.old units.new (Replies (K.now out.old) (K.now out.new) result) }
     // the line that the words of `big` make is run as by `sim`, and nothing is refused
     ensures big { (names : BigWords) → asked (map string_bytes words.now) ≡ Some (AskedBig names) → RunsMade names sim.old (record { line = sim.new; report = last.new }) (Replies (K.now out.old) (K.now out.new) result) }
-    // a run begins as it is stated, and what happens on the line is legal and follows the script
-    ensures begins { HasRunOf BeganRightly (map string_bytes words.now) (F.now files.old) sim.old (record { line = sim.new; report = last.new }) }
-    // whatever is lost, repeated or cut, at every moment of a run each device keeps its starting content, or is stopped, or runs what the project says
-    ensures old_stopped_or_new { HasRunOf HasOldStoppedOrNew (map string_bytes words.now) (F.now files.old) sim.old (record { line = sim.new; report = last.new }) }
-    // each group telegram acts on exactly the objects that the running configuration links
-    ensures telegrams { HasRunOf HasTelegramsRight (map string_bytes words.now) (F.now files.old) sim.old (record { line = sim.new; report = last.new }) }
-    // done is told only where what the project says runs
-    ensures done { HasRunOf RunsWhereDone (map string_bytes words.now) (F.now files.old) sim.old (record { line = sim.new; report = last.new }) }
-    // no tunnelling request acts twice
-    ensures once { HasRunOf ActsOnce (map string_bytes words.now) (F.now files.old) sim.old (record { line = sim.new; report = last.new }) }
-    // no device has two downloaders at once, the log tells no end that the record doesn't show, and all that is sent is right
-    ensures told { HasRunOf IsToldRightly (map string_bytes words.now) (F.now files.old) sim.old (record { line = sim.new; report = last.new }) }
-    // an end is told at rest, no attempt begins once its job is decided, and the gateway is told of each loss that it doesn't know of, once
-    ensures thorough { HasRunOf EndsThoroughly (map string_bytes words.now) (F.now files.old) sim.old (record { line = sim.new; report = last.new }) }
-    // it loses no time
-    ensures hastens { HasRunOf HasLostNoTime (map string_bytes words.now) (F.now files.old) sim.old (record { line = sim.new; report = last.new }) }
-    // where no line of the script disturbs, and the jobs' devices are on the line, nothing fails, and the run isn't broken off but for want of memory, by a flood
-    // of datagrams where a group telegram asks for values, or at the last time of 64 bits: each load is told done, each check done exactly where an earlier job loads its device or its device began with
-    // the new image, and each group telegram sent; and then the status is 0 or 1, unless there was no memory for the text or it couldn't be written
-    ensures undisturbed { HasRunOf (EndsUndisturbed result) (map string_bytes words.now) (F.now files.old) sim.old (record { line = sim.new; report = last.new }) }
-    // it asks the gateway to end the open channel only when all jobs are over: then once, after the listening
-    ensures leaves { HasRunOf LeavesItsChannel (map string_bytes words.now) (F.now files.old) sim.old (record { line = sim.new; report = last.new }) }
-    // a run that breaks off has its cause in the record, want of memory and a failed link aside; else there is none in the end, every job has its end
-    // and the closing is over
-    ensures fault { HasRunOf HasFaultRight (map string_bytes words.now) (F.now files.old) sim.old (record { line = sim.new; report = last.new }) }
-    ensures over { HasRunOf EndsEveryJob (map string_bytes words.now) (F.now files.old) sim.old (record { line = sim.new; report = last.new }) }
-    ensures closed { HasRunOf ClosesToItsEnd (map string_bytes words.now) (F.now files.old) sim.old (record { line = sim.new; report = last.new }) }
-    // what the log tells was done by one of the run's workers, as many as the words say, or by the group thread
-    ensures seats { HasRunOf IsOfItsWorkers (map string_bytes words.now) (F.now files.old) sim.old (record { line = sim.new; report = last.new }) }
+    // one run, which the words ask for, keeps the whole headline: whatever is lost, repeated or cut, at every moment each device keeps its starting content, or is
+    // stopped, or runs what the project says; each group telegram acts on exactly the objects that the running configuration links; done is told only where what the
+    // project says runs; no tunnelling request acts twice; and so on, sentence by sentence
+    ensures run { RunsRightly result (map string_bytes words.now) (F.now files.old) sim.old (record { line = sim.new; report = last.new }) }
     // that the link failed is told of a run over the simulated line only at the last time of 64 bits, where a call of that line failed
     ensures link { (touches (asked (map string_bytes words.now))).line ≡ true → FaultsOfLine last.new sim.new }
     // what its command doesn't touch stays: the simulated line, the network, the simulated bus of units, and that there is no run

@@ -1,13 +1,14 @@
 -- What a link tells of itself: nothing, as a socket; its record alone; or its start and its events, off which the record is read. And what a
 -- sending, a new endpoint and a poll may do to that. A sending adds itself; a poll adds legal events that are not the client's, and then the
--- datagram that is got, or a quiet wait. A call that fails may have added its own sending, or legal events without a datagram. Where a link
--- tells something, its clock is read in polls alone, and never runs back: a sending has the time that was told before it. With an exact clock, as
--- that of events is, a quiet poll lasts just its wait and no poll lasts longer; with one that runs a poll lasts as long as it likes.
+-- datagram that is got, or a quiet wait, at whose end nothing but time can go on. A call that fails may have added its own sending, or legal events
+-- without a datagram. Where a link tells something, its clock is read in polls alone, and never runs back: a sending has the time that was told
+-- before it. With an exact clock, as that of events is, a quiet poll lasts just its wait and no poll lasts longer; with one that runs a poll lasts as
+-- long as it likes.
 use Rattle.std.specs.Prelude.{◌≡◌, ℕ, ◌+◌, ◌<◌, ◌≤◌, ◌⊎◌, nat_lt, Bool, true, false, List, [], ◌∷◌, ◌++◌, length, Option, Some, None}
 use Rattle.line_model.specs.Tunnel.{Commissions}
 use Rattle.line_model.specs.World.{World, Event, Send, From, Renew, Down, Pass, now, replay}
 use Rattle.line_model.specs.Legal.{MayHappen}
-use Rattle.line_model.specs.Fresh.{IsFresh}
+use Rattle.line_model.specs.Fresh.{IsFresh, Settled}
 use Rattle.line_model.specs.Record.{Item, Put, Renewed, Got, Quiet, Entry, entry, item_at, record_of, Placed, placed, counted}
 
 pub data Clock : Type 0 where
@@ -100,6 +101,11 @@ EndsSo (Got octets) wait since until (Down age) = until ≤ since + wait
 EndsSo Quiet wait since until (Pass ms) = until ≡ since + wait
 EndsSo what wait since until e = ⊥
 
+-- what is due when a quiet poll ends was done in it
+abbrev pub EndsSettled : Item → World → Type 0
+EndsSettled Quiet w = Settled Commissions w
+EndsSettled what w = Unit {0}
+
 pub record PollsFull (what : Item) (wait : ℕ) (start : World) (before after : List Event) : Type 0 where
   pub events : List Event
   pub foreign : GoesOn start before events
@@ -108,6 +114,7 @@ pub record PollsFull (what : Item) (wait : ℕ) (start : World) (before after : 
   pub brings : item_at (replay start events) last ≡ Some what
   pub all : after ≡ last ∷ events
   pub ends : EndsSo what wait (now (replay start before)) (now (replay start after)) last
+  pub settled : EndsSettled what (replay start after)
 
 -- ---- a poll, by the record
 

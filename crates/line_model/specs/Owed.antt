@@ -1,9 +1,12 @@
 -- What the lines of a script call for directly after an event: a second delivery, power that returns, a connection or the channel that closes. It
 -- comes before anything else but what the client itself does. What isn't possible any more isn't called for: a second delivery of a datagram to an
--- endpoint that was left, or of a frame to a device that no longer keeps one as the last that it got.
+-- endpoint that was left, or of a frame to a device that no longer keeps one as the last that it got, or the closing of a connection by a device that
+-- has none.
 use Rattle.std.specs.Prelude.{ℕ, Bool, true, false, ◌&&◌, ◌==◌, nat_lt, is_some, List, [], ◌∷◌, ◌++◌, drop, if◌then◌else◌, Option, Some, None, slice_get}
 use Rattle.std.specs.List.{filter}
 use Rattle.knx_model.specs.declared.frames.cemi.Ldata.{Ldata}
+use Rattle.knx_model.specs.DeviceConnection.{partner_of}
+use Rattle.knx_model.specs.DeviceState.{DeviceState}
 use Rattle.line_model.specs.Network.{Sent}
 use Rattle.line_model.specs.Tunnel.{Mode}
 use Rattle.line_model.specs.World.{World, Event, Send, From, Renew, Up, UpRefused, Down, BusTorn, BusAgain, DevClose, GwClose, On, frame_by, replay}
@@ -76,12 +79,17 @@ goes_again test age (Some s) = test age s && (s.delivered == 1)
 abbrev pub passes_again : (ℕ → Sent → Bool) → List Sent → ℕ → Bool
 passes_again test sent number = goes_again test (age_of sent number) (slice_get sent (age_of sent number))
 
+-- a device has a connection
+abbrev pub is_connected : Option DeviceState → Bool
+is_connected None = false
+is_connected (Some d) = is_some (partner_of d.connection)
+
 abbrev pub is_possible : Mode → World → Owed → Bool
 is_possible mode w (DeliverAgain number) = passes_again (goes_up w) w.tunnel.network.up number
 is_possible mode w (ReachAgain number) = passes_again (goes_down mode w) w.tunnel.network.down number
 is_possible mode w (BringAgain device) = is_some (frame_by (λ d. d.last) (w.devices device))
 is_possible mode w (PowerReturns device) = true
-is_possible mode w (ConnectionCloses device) = true
+is_possible mode w (ConnectionCloses device) = is_connected (w.devices device)
 is_possible mode w ChannelCloses = true
 
 -- ---- what is owed after all these events: the first one first

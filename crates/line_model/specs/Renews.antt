@@ -67,7 +67,7 @@ abbrev pub AcknowledgesRightly : List Entry → Type 0
 AcknowledgesRightly [] = Unit {0}
 AcknowledgesRightly (x ∷ r) = IsOwed (owed r) x × AcknowledgesRightly r
 
--- ---- a deadline: an unacknowledged request is to be sent again, a heartbeat is to be sent, or a new endpoint is to be taken
+-- ---- a deadline: an unacknowledged request is to be sent again, a heartbeat is to be sent, or a channel is to be sought
 
 abbrev pub is_repeat_due : List ℕ → ℕ → Bool
 is_repeat_due (t ∷ []) now = has_passed acknowledgement_wait t now
@@ -82,9 +82,9 @@ last_beat c (x ∷ y ∷ l) = if is_beat c x then x.now else last_beat c (y ∷ 
 abbrev pub is_beat_due : ℕ → List Entry → ℕ → Bool
 is_beat_due c l now = has_passed heartbeat_pause (last_beat c l) now
 
--- the last try failed, or the channel was lost: a new endpoint is to be taken
+-- no channel was sought yet, the last try failed, or the channel was lost: a new endpoint is to be taken, and a connect request to be sent
 abbrev pub is_left : ClientChannel → Bool
-is_left Fresh = false
+is_left Fresh = true
 is_left (Sought since) = false
 is_left (RefusedBy status) = true
 is_left Unanswered = true

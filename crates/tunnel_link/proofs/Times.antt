@@ -148,7 +148,7 @@ not_passed since at le = grind (arith, nat_tests)
 
 wait_left : (ch : ClientChannel) (now at : ℕ) → LeftOrSought ch now → is_left ch ≡ false → at ≤ now + 100 → is_left (after_entry ch (entry Quiet at)) ≡ false
 unfolding after_entry
-wait_left seen.Fresh now at s h le = refl
+wait_left seen.Fresh now at s h le = absurd (cc)
 wait_left (seen.Sought since) now at s h le = rw (not_passed since at (omega arith)) refl
 wait_left (seen.RefusedBy status) now at s h le = absurd (cc)
 wait_left seen.Unanswered now at s h le = absurd (cc)

@@ -15,7 +15,7 @@ ghost use Rattle.line_model.specs.Log.{Job, IsLog, OneDownloaderPerDevice, Taken
 ghost use Rattle.hub_work.specs.Books.{AreJobsOf};
 ghost use Rattle.hub_work.specs.Requests.{IsTurnInRange};
 ghost use Rattle.hub_work.specs.declared.job.HubJob.{HubJob as JobOfHub};
-ghost use Rattle.hub_core.specs.Promises.{DropsIn, FaultRightIn, HastensIn, IsRightOver, IsSafeOver, TellsIn};
+ghost use Rattle.hub_core.specs.Promises.{DropsIn, FaultRightIn, HasParted, HastensIn, IsRightOver, IsSafeOver, TellsIn};
 ghost use Rattle.hub_core.specs.Seen.{AreJobs, tasks_seen};
 ghost use Rattle.hub_core.specs.Thorough.{IsThoroughOver};
 
@@ -159,7 +159,7 @@ impl<L: Link> Hub<L> {
     /// What its type keeps, at every moment and after a fault too, for any jobs with its devices and plans. Where its link tells something: the log is
     /// one of its jobs and telegrams, what it tells is true, and each request was right; all is kept that the line's promises need of the client, and it
     /// polled promptly, so that it kept the client's whole discipline; it is thorough in what it ends; it lost no time; it has ended exactly where there is a cause; and over
-    /// a link that tells its events and with good jobs, what the law of the line says. Over every link its log is one of its jobs and telegrams, with one downloader for each
+    /// a link that tells its events and with good jobs, what the law of the line says. Until it has ended, the gateway was told of each loss of the channel. Over every link its log is one of its jobs and telegrams, with one downloader for each
     /// device, and each job that was taken was the first that was free.
     pub fn keeps(&self)
         ensures tells { (jobs : List Job) → AreJobs self.now.jobs jobs → TellsIn jobs self.now.turns self.now.log (L.story self.now.link) }
@@ -172,6 +172,7 @@ impl<L: Link> Hub<L> {
         ensures form { (jobs : List Job) → AreJobsOf self.now.devices jobs → IsLog jobs self.now.turns (L.place self.now.link) self.now.log }
         ensures alone { (jobs : List Job) → AreJobsOf self.now.devices jobs → OneDownloaderPerDevice jobs self.now.log }
         ensures in_order { (jobs : List Job) → AreJobsOf self.now.devices jobs → TakenInOrder jobs self.now.log }
+        ensures parted { self.now.fault ≡ None → HasParted (L.story self.now.link) }
         ensures place { IsPlace (L.place self.now.link) (L.story self.now.link) }
     {
         one_downloader_per_device();

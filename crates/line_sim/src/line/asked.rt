@@ -8,6 +8,7 @@ ghost use Rattle.knx_model.specs.DeviceFrames.{AreOctets, worn_octets};
 ghost use Rattle.line_model.specs.Counts.{is_connect_at};
 ghost use Rattle.line_model.specs.Deliveries.{next_up, next_down};
 ghost use Rattle.line_model.specs.Network.{OfSent};
+ghost use Rattle.line_model.specs.Owed.{is_connected};
 ghost use Rattle.line_model.specs.Tunnel.{Mode, Commissions, Serves};
 ghost use Rattle.line_model.specs.World.{World, BusTorn, BusWorn, Up, Down, next_frame};
 ghost use Rattle.line_sim.specs.Allowed.{Allows};
@@ -128,6 +129,16 @@ impl Line {
         ensures { (w : World) → IsNow self.now w → result ≡ last_at w device }
     {
         self.devices.get(device)?.last()
+    }
+
+    /// Whether a device has a connection.
+    pub fn is_connected(&self, device: u16) -> bool
+        ensures { (w : World) → IsNow self.now w → result ≡ is_connected (w.devices device) }
+    {
+        match self.devices.get(device) {
+            Some(device) => device.is_connected(),
+            None => false,
+        }
     }
 
     /// Each device has the address at which it is, for a caller to know. It does nothing.

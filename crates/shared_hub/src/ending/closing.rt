@@ -69,7 +69,10 @@ impl<L: Link> Ending<L> {
                 Ok(false)
             }
             Finished::Going => Ok(false),
-            Finished::Over => Ok(true),
+            Finished::Over => {
+                self.hub.keeps();
+                Ok(true)
+            }
         }
     }
 }

@@ -4,53 +4,14 @@ use Rattle.knx_cli.proofs.ended.status_of.Goals as goal
 pub returns-in-Ok-clause-usage : goal.returns-in-Ok-clause-usage
 returns-in-Ok-clause-usage g c = rw (c.in-Ok.is, ← c.as_slice.ensures.value, told c.knx.result c.number.result c.number.ensures) c.knx.ensures.usage
 
-pub returns-in-Ok-clause-old_stopped_or_new : goal.returns-in-Ok-clause-old_stopped_or_new
-returns-in-Ok-clause-old_stopped_or_new g c = rw (c.in-Ok.is, ← c.as_slice.ensures.value) c.knx.ensures.old_stopped_or_new
-
-pub returns-in-Ok-clause-begins : goal.returns-in-Ok-clause-begins
-returns-in-Ok-clause-begins g c = rw (c.in-Ok.is, ← c.as_slice.ensures.value) c.knx.ensures.begins
-
-pub returns-in-Ok-clause-telegrams : goal.returns-in-Ok-clause-telegrams
-returns-in-Ok-clause-telegrams g c = rw (c.in-Ok.is, ← c.as_slice.ensures.value) c.knx.ensures.telegrams
-
-pub returns-in-Ok-clause-done : goal.returns-in-Ok-clause-done
-returns-in-Ok-clause-done g c = rw (c.in-Ok.is, ← c.as_slice.ensures.value) c.knx.ensures.done
-
-pub returns-in-Ok-clause-once : goal.returns-in-Ok-clause-once
-returns-in-Ok-clause-once g c = rw (c.in-Ok.is, ← c.as_slice.ensures.value) c.knx.ensures.once
-
-pub returns-in-Ok-clause-told : goal.returns-in-Ok-clause-told
-returns-in-Ok-clause-told g c = rw (c.in-Ok.is, ← c.as_slice.ensures.value) c.knx.ensures.told
-
-pub returns-in-Ok-clause-fault : goal.returns-in-Ok-clause-fault
-returns-in-Ok-clause-fault g c = rw (c.in-Ok.is, ← c.as_slice.ensures.value) c.knx.ensures.fault
-
-pub returns-in-Ok-clause-over : goal.returns-in-Ok-clause-over
-returns-in-Ok-clause-over g c = rw (c.in-Ok.is, ← c.as_slice.ensures.value) c.knx.ensures.over
-
-pub returns-in-Ok-clause-closed : goal.returns-in-Ok-clause-closed
-returns-in-Ok-clause-closed g c = rw (c.in-Ok.is, ← c.as_slice.ensures.value) c.knx.ensures.closed
-
-pub returns-in-Ok-clause-seats : goal.returns-in-Ok-clause-seats
-returns-in-Ok-clause-seats g c = rw (c.in-Ok.is, ← c.as_slice.ensures.value) c.knx.ensures.seats
+pub returns-in-Ok-clause-run : goal.returns-in-Ok-clause-run
+returns-in-Ok-clause-run g c = rw (c.in-Ok.is, ← c.as_slice.ensures.value, told c.knx.result c.number.result c.number.ensures) c.knx.ensures.run
 
 pub returns-in-Ok-clause-link : goal.returns-in-Ok-clause-link
 returns-in-Ok-clause-link g c = rw (c.in-Ok.is, ← c.as_slice.ensures.value) c.knx.ensures.link
 
 pub returns-in-Ok-clause-download : goal.returns-in-Ok-clause-download
 returns-in-Ok-clause-download g c = rw (c.in-Ok.is, ← c.as_slice.ensures.value, told c.knx.result c.number.result c.number.ensures) c.knx.ensures.download
-
-pub returns-in-Ok-clause-thorough : goal.returns-in-Ok-clause-thorough
-returns-in-Ok-clause-thorough g c = rw (c.in-Ok.is, ← c.as_slice.ensures.value) c.knx.ensures.thorough
-
-pub returns-in-Ok-clause-hastens : goal.returns-in-Ok-clause-hastens
-returns-in-Ok-clause-hastens g c = rw (c.in-Ok.is, ← c.as_slice.ensures.value) c.knx.ensures.hastens
-
-pub returns-in-Ok-clause-undisturbed : goal.returns-in-Ok-clause-undisturbed
-returns-in-Ok-clause-undisturbed g c = rw (c.in-Ok.is, ← c.as_slice.ensures.value, told c.knx.result c.number.result c.number.ensures) c.knx.ensures.undisturbed
-
-pub returns-in-Ok-clause-leaves : goal.returns-in-Ok-clause-leaves
-returns-in-Ok-clause-leaves g c = rw (c.in-Ok.is, ← c.as_slice.ensures.value) c.knx.ensures.leaves
 
 pub returns-in-Ok-clause-gateway : goal.returns-in-Ok-clause-gateway
 returns-in-Ok-clause-gateway g c = rw (c.in-Ok.is, ← c.as_slice.ensures.value, told c.knx.result c.number.result c.number.ensures) c.knx.ensures.gateway

@@ -1,6 +1,6 @@
-use Rattle.std.proofs.Common.{◌<◌, inl, refl, subst, arith}
+use Rattle.std.proofs.Common.{◌<◌, ◌≤◌, inl, refl, subst}
 use Rattle.bus_sim.specs.Turned.{StopsPlaying}
-use Rattle.bus_sim.specs.Turns.{Turns, Gets, Happens, Passes}
+use Rattle.bus_sim.specs.Turns.{Turns, Gets, Happens, Passes, PassesQuietly}
 use Rattle.bus_sim.proofs.Faults.{at_most, no_less}
 use Rattle.bus_sim.proofs.Playing.{gives_or_not, plays_still, until_begins, until_ends, until_given, until_happens, until_passes}
 use Rattle.bus_sim.proofs.Polling.{OnErrAny}
@@ -39,12 +39,12 @@ loop-letter-preserved-in-Went g c =
 
 pub loop-letter-preserved : goal.loop-letter-preserved
 loop-letter-preserved g c =
-    let passes : (0 < c.in-Passed.ms) × (c.in-Passed.ms < c.loop-letter.left) × Passes c.in-Passed.ms c.loop-letter.self c.turn.new.self = subst (λ t. Turns t c.loop-letter.left c.loop-letter.self c.turn.new.self) c.in-Passed.is c.in_ok-letter.ensures.turns in
+    let passes : (0 < c.in-Passed.ms) × (c.in-Passed.ms ≤ c.loop-letter.left) × Passes c.in-Passed.ms c.loop-letter.self c.turn.new.self = subst (λ t. Turns t c.loop-letter.left c.loop-letter.self c.turn.new.self) c.in-Passed.is c.in_ok-letter.ensures.turns in
     record {
-      plays = until_passes c.args.self.now c.loop-letter.self c.turn.new.self c.loop-letter.left c.in-Passed.ms c.args.wait (g.P.Port.story c.args.port.now) (g.P.Port.story c.loop-letter.port) c.loop-letter.invariant.plays (omega (arith, passes.1)) passes.2;
+      plays = until_passes c.args.self.now c.loop-letter.self c.turn.new.self c.loop-letter.left c.in-Passed.ms c.args.wait (g.P.Port.story c.args.port.now) (g.P.Port.story c.loop-letter.port) c.loop-letter.invariant.plays passes.1 passes.2;
       count = c.loop-letter.invariant.count;
     }
 
 pub returns-in-Quiet-clause-plays : goal.returns-in-Quiet-clause-plays
 returns-in-Quiet-clause-plays g c = until_ends c.args.self.now c.loop-letter.self c.turn.new.self c.loop-letter.left c.args.wait (g.P.Port.story c.args.port.now) (g.P.Port.story c.loop-letter.port) c.requires.serves c.loop-letter.invariant.plays
-    (subst (λ t. Turns t c.loop-letter.left c.loop-letter.self c.turn.new.self) c.in-Quiet.is c.in_ok-letter.ensures.turns)
+    (let ends : PassesQuietly c.loop-letter.left c.loop-letter.self c.turn.new.self = subst (λ t. Turns t c.loop-letter.left c.loop-letter.self c.turn.new.self) c.in-Quiet.is c.in_ok-letter.ensures.turns in ends.passes)

@@ -53,3 +53,6 @@ returns-clause-fault g c =
 
 pub returns-clause-place : goal.returns-clause-place
 returns-clause-place g c = rw (← c.self.view_is) (subst (λ (n : ℕ). IsPlace n (g.L.Link.story c.self.inside.tunnel.link)) c.at-at.ensures.value c.at-at.ensures.told)
+
+pub returns-clause-parted : goal.returns-clause-parted
+returns-clause-parted g c = rw (← c.self.view_is) (λ none places e. ((c.keeps.ensures.record places e).fits none).parted)
