@@ -187,10 +187,13 @@ fn any_number_of_workers_does_all(rt: HostRuntime) -> Result<(), Fail> {
 
 #[test]
 fn a_job_goes_on_while_another_is_held(rt: HostRuntime) -> Result<(), Fail> {
-    let gate = HoldsTheFirst::new();
-    let report = run(&rt, rt.alloc(), 4, &gate)?;
-    assert_eq!(rt; done_in(&report), 5);
-    assert_eq!(rt; gate.gave_up.load(Ordering::SeqCst), 0);
+    // of two, the other goes through job 2 before he takes job 3
+    for workers in [2, 4] {
+        let gate = HoldsTheFirst::new();
+        let report = run(&rt, rt.alloc(), workers, &gate)?;
+        assert_eq!(rt; done_in(&report), 5, "with {workers}");
+        assert_eq!(rt; gate.gave_up.load(Ordering::SeqCst), 0, "with {workers}");
+    }
     Ok(())
 }
 
