@@ -302,7 +302,7 @@ class Run:
         a load that nothing disturbs but worn memory, the first of its device, whose writes are counted from 1."""
         harms, image, size = self.harms_to(device), self.image[device], self.size.get(device, 60)
         others = [word for word in harms if word != "worn"]
-        if kind == "check" and device in self.held and not self.may_fail(device):
+        if kind == "check" and device in self.held and len(others) < 3 and "off" not in others:
             return check_end(image, self.held[device], size)
         if kind == "load" and device in self.devices and not others and not (harms and device in self.loaded):
             return load_end(image, size, {values[1] for word, *values in self.harms if word == "worn" and values[0] == device})
