@@ -16,6 +16,8 @@ HEARD = re.compile(r"heard (\S+) (\S+) response (?:s[0-3][0-9A-F]|(?:[0-9A-F]{2}
 DEVICE = re.compile(r"device (\S+) (new|old|stopped)((?: \d+=\S+)*)")
 LOG = re.compile(r"log (\d+) ([1-8]) (took|done|failed|refused) (\d+)|log (\d+) 0 (sent|lost) (\d+)")
 ALL_NOCON = "failed nocon nocon nocon"
+# the lines of a script of which each can end one attempt of a job; a datagram or a frame that comes again ends none, nor does a channel that is refused
+ENDING = ("lose up", "lose down", "drop channel", "lose to", "lose from", "cut", "close")
 # a download that stops before it dials, and a gateway that stops before it binds, is told so; one that goes on is answered so where nothing can be dialled or bound
 DIALS = (9, "link fault\n")
 
@@ -225,6 +227,11 @@ class Run:
     def harms_to(self, device):
         return [word for word, *values in self.harms if device_in(word, values) in (None, device)]
 
+    def may_fail(self, device):
+        """Whether the script can end each of the three attempts of a job of the device: it has no power, or three lines can end one."""
+        harms = self.harms_to(device)
+        return "off" in harms or sum(word in ENDING for word in harms) >= 3
+
     def surprises(self, status, text):
         """What in a run's answer isn't as it has to be."""
         lines = text.split("\n")
@@ -321,8 +328,8 @@ class Run:
             found.append("refused, and nothing differs")
         if word == "refused" and kind == "check":
             self.cases[device] = cases - {"new"}
-        if word == "failed" and "off" not in harms and len(harms) < 3:
-            found.append("failed by fewer than three disturbances")
+        if word == "failed" and not self.may_fail(device):
+            found.append("failed by fewer than three lines that can end an attempt")
         if word == "failed" and harms == ["off"] and end != ALL_NOCON:
             found.append("another sign than nocon of a device without power")
         return found

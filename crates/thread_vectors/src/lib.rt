@@ -5,6 +5,8 @@
 #[cfg(test)]
 mod cells;
 #[cfg(test)]
+mod relays;
+#[cfg(test)]
 mod routers;
 #[cfg(test)]
 mod runs;
