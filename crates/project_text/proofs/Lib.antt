@@ -1,3 +1,6 @@
+pub mod KeptLines
+pub mod SameMeaning
+pub mod SendLines
 pub mod Again
 pub mod Flags
 pub mod FirstLine

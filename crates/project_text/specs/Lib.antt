@@ -1,3 +1,4 @@
+pub mod Migrated
 pub mod Printing
 pub mod Reading
 pub mod Spelling
