@@ -1,3 +1,4 @@
+pub mod MigratedAgain
 pub mod KeptLines
 pub mod SameMeaning
 pub mod SendLines

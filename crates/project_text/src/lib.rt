@@ -11,7 +11,7 @@ mod read;
 
 pub use knx_model::{Groups, Refused, Statement, TextVersion, What, Why};
 pub use laws::{
-    first_misfit, least_line, migrated_means_the_same, printed_again, statement_spelled, version_by_first_line,
+    first_misfit, least_line, migrated_means_the_same, migrated_reads_again, migrated_twice, printed_again, statement_spelled, version_by_first_line,
     words_too_many_or_few,
 };
 pub use print::print_project;
