@@ -1,7 +1,7 @@
 -- What the lines of a migrated project say, beside its `send` lines: what those of the project say.
 use Rattle.std.proofs.Common.{◌≡◌, ℕ, ◌+◌, Bool, true, false, cond, eqb, List, [], ◌∷◌, ◌++◌, map, Option, Some, None, refl, sym, ap, ◌∙◌}
 use Rattle.std.specs.List.{cons_option, filter_map, flat_map, range_with_len}
-use Rattle.std.specs.Option.{option_and_then, option_map, option_or}
+use Rattle.std.specs.Option.{option_and_then, option_map}
 use Rattle.std.proofs.lemmas.List.{append-nil}
 use Rattle.std.proofs.lemmas.List.Concat.{flat_map-append}
 use Rattle.std.proofs.lemmas.List.Elements.{filter_map-append}
@@ -124,7 +124,7 @@ unfolding sends_below
 sends_silent f silent n ss =
     filter_filter f (λ k. send_of ss (device_at k) (object_at k)) (range_with_len 0 n)
     ∙ filter_none (λ k. option_and_then f (send_of ss (device_at k) (object_at k))) (range_with_len 0 n) (λ k.
-        let d = device_at k in quiet_send f silent d (object_at k) (first_group (link_lines d ss) (object_at k)) (sending_group (last_send d ss) (link_lines d ss) (object_at k)))
+    let d = device_at k in quiet_send f silent d (object_at k) (first_group (link_lines d ss) (object_at k)) (sending_group (last_send d ss) (link_lines d ss) (object_at k)))
 
 all_silent : {A : Type 0} (f : What → Option A) → IsSilent f → (ss : List Statement) → filter_map f (sends ss) ≡ []
 unfolding sends

@@ -1,3 +1,5 @@
+pub mod SendsKept
+pub mod Appending
 pub mod MigratedAgain
 pub mod KeptLines
 pub mod SameMeaning

@@ -1,9 +1,12 @@
 -- A migrated project can be spelled, in lines that ascend from 1, so it is read again from its text; and migrated once more it stays.
-use Rattle.std.proofs.Common.{◌≡◌, ℕ, zero, suc, ◌+◌, ◌*◌, ◌/◌, ◌%◌, ◌<◌, ◌≤◌, Bool, true, false, cond, not, ◌&&◌, eqb, ltb, leb, List, [], ◌∷◌, ◌++◌, length, map, All, Option, Some, None, Ok, refl, sym, ap, ◌∙◌, subst, arith}
+use Rattle.std.proofs.Common.{◌≡◌, ℕ, ◌+◌, ◌*◌, ◌%◌, ◌<◌, ◌≤◌, Bool, true, false, cond, not, ◌&&◌, eqb, ltb, List, [], ◌∷◌, ◌++◌, length, map, All, Option, Some, None, Ok, refl, sym, ap, ◌∙◌, subst, arith}
+use Rattle.std.specs.Prelude.{IsSome}
+use Rattle.std.proofs.Common.{get_or}
+use Rattle.std.proofs.lemmas.List.Sums.{AllPass-from_list_all}
 use Rattle.std.specs.List.{cons_option, filter_map, flat_map, last_or, list_all, range_with_len}
-use Rattle.std.specs.Option.{option_and_then, option_map, option_or}
+use Rattle.std.specs.Option.{option_or}
 use Rattle.std.proofs.lemmas.Option.{same_Some}
-use Rattle.std.proofs.lemmas.Bool.{and_parts, and_from, eqb-true, eq-eqb, ltb-true, lt-ltb}
+use Rattle.std.proofs.lemmas.Bool.{and_parts, and_from, eqb-true, ltb-true, lt-ltb}
 use Rattle.std.proofs.lemmas.List.{append-nil}
 use Rattle.std.proofs.lemmas.List.Concat.{flat_map-append}
 use Rattle.std.proofs.lemmas.List.Elements.{All-head, All-tail}
@@ -17,13 +20,16 @@ use Rattle.knx_model.specs.declared.project.What.{What}
 use Rattle.knx_model.specs.declared.project.What.TheVariants.{Version, Title, Group, Device, Object, Link, Send, Flags, Param}
 use Rattle.knx_model.specs.LeastLine.{lines_ascend}
 use Rattle.knx_model.specs.Meaning.{link_lines, send_line, last_send, first_group, sending_group}
-use Rattle.knx_model.specs.Statements.{statement, is_version, is_spellable, are_spelled, are_spellable, are_numbered, version_of, is_device, is_object, is_group, are_groups, most_groups, is_version_2, reading}
-use Rattle.project_text.specs.Migrated.{link_to_one, one_by_one, kept, send_of, device_at, object_at, sends_below, sends, numbered_from, migrated}
+use Rattle.knx_model.specs.Statements.{statement, is_version, is_spellable, are_spelled, are_spellable, are_numbered, version_of, is_device, is_object, is_group, are_groups, reading}
+use Rattle.project_text.specs.Migrated.{link_to_one, one_by_one, kept, send_of, device_at, object_at, sends_below, sends, numbered_from, numbered_after, migrated}
 use Rattle.project_text.specs.Printing.{printed, renumbered_from}
 use Rattle.project_text.proofs.Again.{reading_again}
+use Rattle.project_text.proofs.Appending.{after_both}
 use Rattle.project_text.proofs.KeptLines.{flat_numbered, all_sends_none, send_by, migrated_links}
-use Rattle.project_text.proofs.SendLines.{same_range, migrated_send, sending_stays}
-use Rattle.project_text.proofs.SameMeaning.{IsLinked, lines_linked}
+use Rattle.project_text.proofs.SendLines.{same_range, sending_stays}
+use Rattle.project_text.proofs.SameMeaning.{IsLinked, lines_linked, same_meaning}
+use Rattle.knx_model.specs.declared.catalogue.model.NamedModel.{NamedModel}
+use Rattle.knx_model.specs.Meaning.{meaning}
 
 -- ---- migrated twice
 
@@ -227,8 +233,8 @@ send_later version ss device n w spelled e =
     let lines = link_lines device ss in
     let has : (g : GroupAddr) → first_group lines n ≡ Some g → FirstFits device n g = λ g is. first_fits device n g lines (lines_linked version device ss spelled) is in
     sent_later device n (first_group lines n) (sending_group (last_send device ss) lines n) w has
-      (or_fits (last_send device ss n) (first_group lines n) (last_fits None (filter_map (λ s. send_line device n s.what) ss) tt (sent_fit version device n ss spelled)) (some_fits (first_group lines n) device n has))
-      e
+    (or_fits (last_send device ss n) (first_group lines n) (last_fits None (filter_map (λ s. send_line device n s.what) ss) tt (sent_fit version device n ss spelled)) (some_fits (first_group lines n) device n has))
+    e
 
 found_later : (o : Option What) (rest : List What) → ((w : What) → o ≡ Some w → is_later w ≡ true) → list_all is_later rest ≡ true → list_all is_later (cons_option o rest) ≡ true
 found_later None rest is all = all
@@ -264,3 +270,49 @@ migrated_spellable version ss spelled =
 
 pub migrated_read : (version : TextVersion) (ss : List Statement) → are_spelled version ss ≡ true → length (printed (migrated ss)) ≤ 4194304 → reading (printed (migrated ss)) ≡ Ok (migrated ss)
 migrated_read version ss spelled short = reading_again (migrated ss) (migrated_spellable version ss spelled) short ∙ ap (λ (t : List Statement). Ok t) (migrated_renumbered ss)
+
+-- the device of an object that has links
+pub device_of_first : (version : TextVersion) (device : IndAddr) (n : ℕ) (ss : List Statement) (first : Option GroupAddr) → are_spelled version ss ≡ true → first_group (link_lines device ss) n ≡ first → IsSome first → device.raw < 65536
+device_of_first version device n ss None spelled is some = absurd cc
+device_of_first version device n ss (Some g) spelled is some =
+    let has = first_fits device n g (link_lines device ss) (lines_linked version device ss spelled) is in
+    let h = and_parts (ltb device.raw 65536 && ltb 0 (device.raw % 256)) (ltb (device.raw % 256) 255) has.device_is in
+    ltb-true device.raw 65536 (and_parts (ltb device.raw 65536) (ltb 0 (device.raw % 256)) h.0).0
+
+spelled_all : (version : TextVersion) (ss : List Statement) → are_spelled version ss ≡ true → All (λ s. is_spellable version s.what ≡ true) ss
+spelled_all version ss spelled = AllPass-from_list_all (λ s. is_spellable version s.what) ss spelled
+
+pub spelled_at : (version : TextVersion) (ss : List Statement) (i : ℕ) (s : Statement) → i < length ss → s ≡ get_or ss i s → are_spelled version ss ≡ true → is_spellable version s.what ≡ true
+spelled_at version ss i s lt is spelled = subst (λ (t : Statement). is_spellable version t.what ≡ true) (sym is) (spelled_all version ss spelled i s lt)
+
+-- what is appended is the migrated project
+pub whole_made : (ss : List Statement) (puts : List What) (told kept_so made : List Statement) → told ≡ numbered_after [] (Version ∷ []) → kept_so ≡ numbered_after told (kept ss) → made ≡ numbered_after kept_so puts → sends ss ≡ puts → made ≡ migrated ss
+unfolding migrated
+whole_made ss puts told kept_so made a b c d =
+    c ∙ ap (λ (t : List Statement). numbered_after t puts) (b ∙ ap (λ (t : List Statement). numbered_after t (kept ss)) a)
+    ∙ ap (λ (t : List Statement). numbered_after t puts) (after_both [] (Version ∷ []) (kept ss))
+    ∙ after_both [] (Version ∷ kept ss) puts
+    ∙ ap (λ (t : List What). numbered_from 1 ((Version ∷ kept ss) ++ t)) (sym d)
+
+-- ---- statements that are the migrated project
+
+pub spelled_in : (ss : List Statement) → are_spellable ss ≡ true → are_spelled (version_of ss) ss ≡ true
+spelled_in ss e = (and_parts (are_spelled (version_of ss) ss) _ e).0
+
+pub made_spellable : (ss made : List Statement) → made ≡ migrated ss → are_spellable ss ≡ true → are_spellable made ≡ true
+made_spellable ss made is e = ap are_spellable is ∙ migrated_spellable (version_of ss) ss (spelled_in ss e)
+
+pub made_numbered : (ss made : List Statement) → made ≡ migrated ss → are_numbered 0 made ≡ true
+made_numbered ss made is = ap (are_numbered 0) is ∙ migrated_numbered ss
+
+pub made_twice : (ss made : List Statement) → made ≡ migrated ss → migrated made ≡ made
+made_twice ss made is = ap migrated is ∙ twice ss ∙ sym is
+
+pub made_read : (ss made : List Statement) → made ≡ migrated ss → are_spellable ss ≡ true → length (printed made) ≤ 4194304 → reading (printed made) ≡ Ok made
+made_read ss made is e short =
+    let same : length (printed made) ≡ length (printed (migrated ss)) = ap (λ (t : List Statement). length (printed t)) is in
+    ap (λ (t : List Statement). reading (printed t)) is ∙ migrated_read (version_of ss) ss (spelled_in ss e) (omega (arith, short, same)) ∙ ap (λ (t : List Statement). Ok t) (sym is)
+
+pub made_means : (ss made : List Statement) → made ≡ migrated ss → are_spellable ss ≡ true → (catalogue : List NamedModel) (device : IndAddr) → meaning (record { statements = made; catalogue = catalogue }) device ≡ meaning (record { statements = ss; catalogue = catalogue }) device
+made_means ss made is e catalogue device =
+    ap (λ (t : List Statement). meaning (record { statements = t; catalogue = catalogue }) device) is ∙ same_meaning (version_of ss) catalogue device ss (spelled_in ss e)

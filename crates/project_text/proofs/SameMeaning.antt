@@ -1,15 +1,13 @@
 -- A migrated project means for each device what the project means.
-use Rattle.std.proofs.Common.{◌≡◌, ◌≢◌, ℕ, ◌+◌, ◌*◌, ◌%◌, ◌<◌, ◌≤◌, Bool, true, false, cond, ◌&&◌, eqb, ltb, leb, List, [], ◌∷◌, ◌++◌, length, map, All, Option, Some, None, refl, sym, ap, ◌∙◌, subst, arith, inl, inr}
-use Rattle.std.specs.Prelude.{unwrap_or, IsTrue}
-use Rattle.std.specs.List.{cons_option, filter_map, flat_map, last_or, list_all}
-use Rattle.std.specs.Option.{option_and_then, option_map, option_or}
-use Rattle.std.proofs.lemmas.Bool.{and_parts, and_from, eqb-true, eq-eqb, ltb-true}
+use Rattle.std.proofs.Common.{◌≡◌, ℕ, ◌+◌, ◌*◌, ◌%◌, ◌<◌, Bool, true, false, cond, ◌&&◌, eqb, ltb, List, [], ◌∷◌, ◌++◌, map, All, Option, Some, None, refl, ap, ◌∙◌, subst, arith}
+use Rattle.std.specs.Prelude.{unwrap_or}
+use Rattle.std.specs.List.{last_or, list_all}
+use Rattle.std.proofs.lemmas.Bool.{and_parts, eqb-true, eq-eqb, ltb-true}
 use Rattle.std.proofs.lemmas.List.Elements.{All-nil, All-cons, All-head, All-tail, All-append}
 use Rattle.knx_model.specs.declared.address.GroupAddr.{GroupAddr}
 use Rattle.knx_model.specs.declared.address.IndAddr.{IndAddr}
 use Rattle.knx_model.specs.declared.catalogue.model.Model.{Model}
 use Rattle.knx_model.specs.declared.catalogue.model.NamedModel.{NamedModel}
-use Rattle.knx_model.specs.declared.catalogue.model.ModelField.{ModelField}
 use Rattle.knx_model.specs.declared.config.Config.{Config}
 use Rattle.knx_model.specs.declared.config.LinkSpec.{LinkSpec}
 use Rattle.knx_model.specs.declared.config.ObjSpec.{ObjSpec}
@@ -18,9 +16,9 @@ use Rattle.knx_model.specs.declared.project.Statement.{Statement}
 use Rattle.knx_model.specs.declared.project.TextVersion.{TextVersion}
 use Rattle.knx_model.specs.declared.project.What.{What}
 use Rattle.knx_model.specs.declared.project.What.TheVariants.{Version, Title, Group, Device, Object, Link, Send, Flags, Param}
-use Rattle.knx_model.specs.Meaning.{Installation, link_to, links_said, link_lines, send_line, last_send, first_group, sending_group, is_the_group, link_of, links_of, model_object, object_line, declared_objects, flags_line, last_flags, flagged, flagged_objects, objects_of, param_line, last_value, param_value, params_of, or_inline, the_model, meaning}
-use Rattle.knx_model.specs.Rules.{first_some, model_in, named_model, model_of}
-use Rattle.knx_model.specs.Statements.{is_spellable, are_spelled, are_spellable, version_of, is_device, is_object, is_group, are_groups}
+use Rattle.knx_model.specs.Meaning.{Installation, link_to, links_said, link_lines, last_send, first_group, is_the_group, link_of, links_of, model_object, object_line, declared_objects, flags_line, flagged, flagged_objects, objects_of, param_line, param_value, params_of, or_inline, the_model, meaning}
+use Rattle.knx_model.specs.Rules.{model_in, named_model, model_of}
+use Rattle.knx_model.specs.Statements.{is_spellable, are_spelled, is_device, is_object, is_group, are_groups}
 use Rattle.project_text.specs.Migrated.{migrated}
 use Rattle.project_text.proofs.KeptLines.{IsSilent, migrated_say, migrated_first, migrated_links}
 use Rattle.project_text.proofs.SendLines.{sending_stays}
@@ -99,7 +97,7 @@ links_stay device ss (line ∷ rest) among linked =
     let is = All-head (IsLinked device) line rest linked in
     let stays = sending_stays device line.0 ss first.0 (object_below line.0 is.object_is) (place_below device line.0 is.device_is is.object_is) first.1 in
     let head : link_of (last_send device (migrated ss)) (link_lines device ss) line ≡ link_of (last_send device ss) (link_lines device ss) line
-        = ap (λ (o : Option GroupAddr). let l : LinkSpec = record { object = line.0; group = line.1; sending = is_the_group o line.1 } in l) stays in
+    = ap (λ (o : Option GroupAddr). let l : LinkSpec = record { object = line.0; group = line.1; sending = is_the_group o line.1 } in l) stays in
     ap (λ (l : LinkSpec). l ∷ map (link_of (last_send device (migrated ss)) (link_lines device ss)) rest) head
     ∙ ap (λ (ls : List LinkSpec). link_of (last_send device ss) (link_lines device ss) line ∷ ls) (links_stay device ss rest (λ n none. later_group line rest n (among n none)) (All-tail (IsLinked device) line rest linked))
 
@@ -131,7 +129,7 @@ same_flagged : (m : Model) (device : IndAddr) (ss : List Statement) → flagged_
 same_flagged m device ss =
     ap (λ (lines : List (ℕ × ObjSpec)). map (flagged device (migrated ss)) (map model_object m.objects ++ lines)) (migrated_say (object_line device) (object_silent device) ss)
     ∙ map_same (flagged device (migrated ss)) (flagged device ss) (declared_objects m device ss) (λ o.
-        ap (λ (flags : List ℕ). let p : ℕ × ObjSpec = (o.0, record { flags = unwrap_or (last_or None flags) o.1.flags; size = o.1.size }) in p) (migrated_say (flags_line device o.0) (flags_silent device o.0) ss))
+    ap (λ (flags : List ℕ). let p : ℕ × ObjSpec = (o.0, record { flags = unwrap_or (last_or None flags) o.1.flags; size = o.1.size }) in p) (migrated_say (flags_line device o.0) (flags_silent device o.0) ss))
 
 same_params : (m : Model) (device : IndAddr) (ss : List Statement) → params_of m device (migrated ss) ≡ params_of m device ss
 unfolding params_of

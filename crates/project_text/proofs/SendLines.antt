@@ -1,7 +1,7 @@
 -- The last `send` line of an object in a migrated project: that of its sending address, where it has links.
-use Rattle.std.proofs.Common.{◌≡◌, ◌≢◌, ℕ, zero, suc, ◌+◌, ◌*◌, ◌/◌, ◌%◌, ◌<◌, ◌≤◌, Bool, true, false, cond, ◌&&◌, eqb, List, [], ◌∷◌, ◌++◌, map, Option, Some, None, refl, sym, ap, ◌∙◌, subst, arith, inl, inr}
+use Rattle.std.proofs.Common.{◌≡◌, ◌≢◌, ℕ, zero, suc, ◌+◌, ◌*◌, ◌/◌, ◌%◌, ◌<◌, ◌≤◌, Bool, true, false, cond, ◌&&◌, eqb, List, [], ◌∷◌, ◌++◌, map, Option, Some, None, refl, ap, ◌∙◌, arith, inl, inr}
 use Rattle.std.specs.List.{cons_option, filter_map, flat_map, range_with_len, last_or}
-use Rattle.std.specs.Option.{option_and_then, option_map, option_or}
+use Rattle.std.specs.Option.{option_and_then, option_or}
 use Rattle.std.proofs.lemmas.Bool.{cases_eq, and_parts, eqb-true, eq-eqb}
 use Rattle.std.proofs.lemmas.List.Elements.{filter_map-append}
 use Rattle.knx_model.specs.declared.address.GroupAddr.{GroupAddr}
@@ -10,7 +10,7 @@ use Rattle.knx_model.specs.declared.project.Statement.{Statement}
 use Rattle.knx_model.specs.declared.project.What.{What}
 use Rattle.knx_model.specs.declared.project.What.TheVariants.{Version, Title, Group, Device, Object, Link, Send, Flags, Param}
 use Rattle.knx_model.specs.Meaning.{link_lines, send_line, last_send, first_group, sending_group}
-use Rattle.project_text.specs.Migrated.{link_to_one, one_by_one, kept, send_of, device_at, object_at, sends_below, sends, numbered_from, migrated}
+use Rattle.project_text.specs.Migrated.{link_to_one, one_by_one, kept, send_of, device_at, object_at, sends_below, sends, migrated}
 use Rattle.project_text.proofs.KeptLines.{filter_numbered, filter_filter, send_by}
 
 -- ---- a list of numbers in which f finds something at one alone
@@ -122,10 +122,10 @@ pub migrated_send : (device : IndAddr) (n : ℕ) (ss : List Statement) → n < 2
 unfolding migrated
 migrated_send device n ss small within =
     ap (last_or None) (
-      filter_numbered (send_line device n) 1 ((Version ∷ kept ss) ++ sends ss)
-      ∙ filter_map-append (send_line device n) (kept ss) (sends ss)
-      ∙ ap (λ (t : List GroupAddr). t ++ filter_map (send_line device n) (sends ss)) (kept_no_sends device n ss)
-      ∙ sent_in_all ss device n small within)
+    filter_numbered (send_line device n) 1 ((Version ∷ kept ss) ++ sends ss)
+    ∙ filter_map-append (send_line device n) (kept ss) (sends ss)
+    ∙ ap (λ (t : List GroupAddr). t ++ filter_map (send_line device n) (sends ss)) (kept_no_sends device n ss)
+    ∙ sent_in_all ss device n small within)
     ∙ last_alone (linked_sending (first_group (link_lines device ss) n) (sending_in ss device n))
 
 -- the sending address of an object that has links stays

@@ -1,7 +1,7 @@
 -- A project as one of version 2: the line `version 2`; the other statements in their order without `version` and `send` lines, each `link`
 -- line with one group; then for each object that has links a `send` line of its sending address, by device and object ascending. The
 -- lines are numbered anew. The project language is this project's own.
-use Rattle.std.specs.Prelude.{ℕ, ◌+◌, ◌/◌, ◌%◌, List, [], ◌∷◌, ◌++◌, map, Option, Some, None}
+use Rattle.std.specs.Prelude.{ℕ, ◌+◌, ◌/◌, ◌%◌, List, [], ◌∷◌, ◌++◌, length, map, Option}
 use Rattle.std.specs.List.{filter_map, flat_map, range_with_len}
 use Rattle.std.specs.Option.{option_map, option_and_then}
 use Rattle.knx_model.specs.declared.address.GroupAddr.{GroupAddr}
@@ -60,6 +60,10 @@ sends ss = sends_below 16777216 ss
 abbrev pub numbered_from : ℕ → List What → List Statement
 numbered_from n [] = []
 numbered_from n (what ∷ whats) = statement n what ∷ numbered_from (n + 1) whats
+
+-- these behind lines, numbered on from their count
+abbrev pub numbered_after : List Statement → List What → List Statement
+numbered_after before whats = before ++ numbered_from (length before + 1) whats
 
 unfoldable pub migrated : List Statement → List Statement
 migrated ss = numbered_from 1 ((Version ∷ kept ss) ++ sends ss)
