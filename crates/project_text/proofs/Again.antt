@@ -1,5 +1,5 @@
 -- What is printed is read again.
-use Rattle.std.proofs.Common.{◌≡◌, ◌≢◌, ℕ, ◌+◌, ◌-◌, ◌*◌, ◌%◌, ◌<◌, ◌≤◌, Bool, true, false, not, codes, ◌&&◌, eqb, ltb, leb, List, [], ◌∷◌, ◌++◌, length, map, take, drop, get_or, All, Ok, Option, Some, None, refl, sym, ap, ◌∙◌, arith, lit≤, lit<, cond, length-append, append_assoc, inl, inr}
+use Rattle.std.proofs.Common.{◌≡◌, ◌≢◌, ℕ, ◌+◌, ◌-◌, ◌*◌, ◌%◌, ◌<◌, ◌≤◌, Bool, true, false, not, codes, ◌&&◌, eqb, ltb, leb, List, [], ◌∷◌, ◌++◌, length, map, get_or, All, Ok, Option, Some, None, refl, sym, ap, ◌∙◌, arith, lit≤, lit<, cond, length-append, append_assoc, inl, inr}
 use Rattle.std.specs.List.{list_all, join_with_byte, position_or_len}
 use Rattle.std.specs.Str.{IsAscii}
 use Rattle.std.specs.Str.Lines.{lines}
@@ -30,7 +30,7 @@ use Rattle.knx_model.specs.declared.project.What.TheVariants.{Version, Title, Gr
 use Rattle.knx_model.specs.declared.project.Statement.{Statement}
 use Rattle.knx_model.specs.Words.{is_text, is_text_octet, without_comment}
 use Rattle.knx_model.specs.LeastLine.{said_from, refused_from, text_reading}
-use Rattle.knx_model.specs.Statements.{grammar_from, grammar_of, project_says, statement, most_groups, some_groups, version_says, title_says, ga_says, device_says, object_says, link_says, send_says, flags_says, param_says, words_say, line_says, version_told, name_value, object_value, reading, is_spellable, are_spelled, are_spellable, is_version, is_version_2, version_of, is_group, are_groups, is_device, is_object}
+use Rattle.knx_model.specs.Statements.{grammar_from, grammar_of, project_says, statement, most_groups, version_says, title_says, ga_says, device_says, object_says, link_says, send_says, flags_says, param_says, words_say, line_says, version_told, name_value, object_value, reading, is_spellable, are_spelled, are_spellable, is_version, version_of, is_group, are_groups, is_device, is_object}
 use Rattle.project_text.specs.Printing.{words_of, line_text, printed, renumbered_from}
 use Rattle.project_text.proofs.FirstLine.{none_tells, line_with_words}
 use Rattle.project_text.proofs.Spelling.{some_read}

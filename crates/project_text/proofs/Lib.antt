@@ -1,3 +1,9 @@
+pub mod SendsKept
+pub mod Appending
+pub mod MigratedAgain
+pub mod KeptLines
+pub mod SameMeaning
+pub mod SendLines
 pub mod Again
 pub mod Flags
 pub mod FirstLine

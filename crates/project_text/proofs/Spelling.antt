@@ -8,13 +8,13 @@ use Rattle.knx_model.specs.declared.project.TextVersion.TheVariants.{One, Two}
 use Rattle.knx_model.specs.declared.project.What.{What}
 use Rattle.knx_model.specs.declared.project.What.TheVariants.{Version, Title, Group, Device, Object, Link, Send, Flags, Param}
 use Rattle.knx_model.specs.declared.refusal.Why.{Why}
-use Rattle.knx_model.specs.declared.refusal.Why.TheVariants.{BadAddress, BadNumber, BadName, BadVersion, MissingWord}
+use Rattle.knx_model.specs.declared.refusal.Why.TheVariants.{BadAddress, BadNumber, BadName, BadVersion}
 use Rattle.knx_model.specs.Numbers.{number_value, is_name}
 use Rattle.knx_model.specs.Addresses.{group_by, ind_value}
 use Rattle.knx_model.specs.Flags.{flags_value}
 use Rattle.knx_model.specs.Sizes.{size_value}
 use Rattle.knx_model.specs.Answers.{◌>>=◌}
-use Rattle.knx_model.specs.Statements.{placed, field, ended, object_value, name_value, most_groups, up_to_groups, some_groups, version_says, title_says, ga_says, device_says, object_says, link_says, send_says, flags_says, param_says, some_what, words_say}
+use Rattle.knx_model.specs.Statements.{placed, field, ended, object_value, name_value, most_groups, some_groups, version_says, title_says, ga_says, device_says, object_says, link_says, send_says, flags_says, param_says, some_what, words_say}
 use Rattle.project_text.specs.Spelling.{SpellsStatement, VersionLine, TitleLine, GroupLine, DeviceLine, ObjectLine, LinkLine, SendLine, FlagsLine, ParamLine}
 use Rattle.project_text.proofs.LinkGroups.{groups_spelled, groups_read}
 

@@ -1,6 +1,6 @@
 -- Which words spell which statement in a text of a version. The first word tells the kind, and each further word is spelled as its
 -- place asks.
-use Rattle.std.specs.Prelude.{◌≡◌, ℕ, ◌<◌, ◌≤◌, Bool, true, ◌==◌, slice_get, codes, List, [], ◌∷◌, length, map, Option, Some}
+use Rattle.std.specs.Prelude.{◌≡◌, ℕ, ◌<◌, ◌≤◌, Bool, true, ◌==◌, slice_get, codes, List, [], ◌∷◌, length, map, Some}
 use Rattle.std.specs.Str.Lines.{lines}
 use Rattle.knx_model.specs.declared.address.GroupAddr.{GroupAddr}
 use Rattle.knx_model.specs.declared.address.IndAddr.{IndAddr}

@@ -3,8 +3,11 @@
 ghost use Rattle.std.specs.Prelude.{◌≡◌, ◌<◌, ◌≤◌, ℕ, Bool, List as Seq, [], ◌∷◌, ◌++◌, length, take, Some, Ok, Err, IsTrue, ◌↔◌};
 ghost use Rattle.std.specs.Str.Lines.{lines};
 ghost use Rattle.knx_model.specs.LeastLine.{AllLinesSay, IsLeastRefused, refused_from};
-ghost use Rattle.knx_model.specs.Statements.{are_spellable, grammar_of, project_says, reading, words_say};
+ghost use Rattle.knx_model.specs.Statements.{are_spellable, are_numbered, grammar_of, project_says, reading, words_say};
+ghost use Rattle.knx_model.specs.declared.address.IndAddr.{IndAddr};
+ghost use Rattle.knx_model.specs.declared.catalogue.model.NamedModel.{NamedModel};
 ghost use Rattle.knx_model.specs.declared.project.Grammar.{Grammar};
+ghost use Rattle.knx_model.specs.Meaning.{meaning};
 ghost use Rattle.knx_model.specs.declared.project.Statement.{Statement};
 ghost use Rattle.knx_model.specs.declared.project.TextVersion.{TextVersion};
 ghost use Rattle.knx_model.specs.declared.project.What.{What};
@@ -12,6 +15,7 @@ ghost use Rattle.knx_model.specs.declared.refusal.Refused.{Refused};
 ghost use Rattle.knx_model.specs.declared.refusal.Why.{Why};
 ghost use Rattle.knx_model.specs.declared.refusal.Why.TheVariants.{MissingWord, ExtraWord};
 ghost use Rattle.knx_model.specs.Places.{Place, FirstMisfit};
+ghost use Rattle.project_text.specs.Migrated.{migrated};
 ghost use Rattle.project_text.specs.Printing.{printed, renumbered_from};
 ghost use Rattle.knx_model.specs.declared.project.TextVersion.TheVariants.{Two};
 ghost use Rattle.project_text.specs.Spelling.{SpellsStatement, TellsVersion2, is_full, needed};
@@ -48,4 +52,21 @@ pub fn version_by_first_line()
 /// Statements that can be spelled are read again from their text, numbered anew, unless it is too long.
 pub fn printed_again()
     ensures { (statements : Seq Statement) → IsTrue (are_spellable statements) → length (printed statements) ≤ 4194304 → reading (printed statements) ≡ Ok (renumbered_from 1 statements) }
+{}
+
+/// A migrated project means for each device what the project means.
+pub fn migrated_means_the_same()
+    ensures { (statements : Seq Statement) (catalogue : Seq NamedModel) (device : IndAddr) → IsTrue (are_spellable statements) → meaning (record { statements = migrated statements; catalogue = catalogue }) device ≡ meaning (record { statements = statements; catalogue = catalogue }) device }
+{}
+
+/// A migrated project can be spelled, in lines that ascend from 1, and is read from its text as itself, unless it is too long.
+pub fn migrated_reads_again()
+    ensures spelled { (statements : Seq Statement) → IsTrue (are_spellable statements) → IsTrue (are_spellable (migrated statements)) }
+    ensures numbered { (statements : Seq Statement) → IsTrue (are_numbered 0 (migrated statements)) }
+    ensures read { (statements : Seq Statement) → IsTrue (are_spellable statements) → length (printed (migrated statements)) ≤ 4194304 → reading (printed (migrated statements)) ≡ Ok (migrated statements) }
+{}
+
+/// A project that is migrated twice is as the one that is migrated once.
+pub fn migrated_twice()
+    ensures { (statements : Seq Statement) → migrated (migrated statements) ≡ migrated statements }
 {}
