@@ -72,8 +72,8 @@ weight_more None k n = refl
 weight_more (Some m) k n = elim (cases_lt m k) [
   | inl lt ↦ rw (lt-ltb m (suc k) (omega (arith, lt)), lt-ltb m k lt, ne_eqb m k (λ q. omega (arith, lt, q))) (omega arith)
   | inr ge ↦ elim (cases_eq m k) [
-    | inl same ↦ rw (lt-ltb m (suc k) (omega (arith, same)), le-ltb k m ge, eq-eqb m k same) refl
-    | inr other ↦ rw (le-ltb (suc k) m (grind (arith, ge, other)), le-ltb k m ge, ne_eqb m k other) refl
+    | inl same ↦ rw (lt-ltb m (suc k) (omega (arith, same)), le-ltb m k ge, eq-eqb m k same) (omega arith)
+    | inr other ↦ rw (le-ltb m (suc k) (grind (arith, ge, other)), le-ltb m k ge, ne_eqb m k other) refl
   ]
 ]
 

@@ -3,15 +3,16 @@ pub mod Asked
 pub mod Breaking
 pub mod Catalogued
 pub mod Few
+pub mod Firsts
 pub mod Indexed
 pub mod Judged
 pub mod Limits
 pub mod Linked
-pub mod LinkSets
 pub mod Named
 pub mod Ordered
 pub mod Placed
 pub mod Repeats
+pub mod Searched
 pub mod Sized
 pub mod Sound
 pub mod Steps

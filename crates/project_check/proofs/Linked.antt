@@ -41,15 +41,17 @@ repeated_link before (Param d name value) e = absurd (false≢true e)
 
 -- a line that says the link of an earlier one repeats it
 repeats_link : (before : List Statement) (what : What) (j : ℕ) (link : Link) (s : Statement) → j < length before → says link (get_or before j s).what ≡ true → says link what ≡ true → links_again before what ≡ true
-repeats_link before (LinkStated device object groups) j link s lt there here =
-    let parts = and_parts (eqb device.raw link.device && eqb object link.object) (has_group link.group groups) here in
-    let first = and_parts (eqb device.raw link.device) (eqb object link.object) parts.0 in
-    let found = Any-from_list_any (λ (x : GroupAddr). eqb x.raw link.group) groups parts.1 in
+repeats_link before (LinkStated device object groups) j l s lt there here =
+    let parts = and_parts (eqb device.raw l.device && eqb object l.object) (has_group l.group groups) here in
+    let first = and_parts (eqb device.raw l.device) (eqb object l.object) parts.0 in
+    let found = Any-from_list_any (λ (x : GroupAddr). eqb x.raw l.group) groups parts.1 in
     let g : GroupAddr = found.1 in
-    let device_is : device.raw ≡ link.device = eqb-true device.raw link.device first.0 in
-    let object_is : object ≡ link.object = eqb-true object link.object first.1 in
-    let group_is : g.raw ≡ link.group = eqb-true g.raw link.group found.4 in
-    let earlier : links_to device.raw object g.raw (get_or before j s).what ≡ true = rw (device_is, object_is, group_is) there in
+    let device_is : device.raw ≡ l.device = eqb-true device.raw l.device first.0 in
+    let object_is : object ≡ l.object = eqb-true object l.object first.1 in
+    let group_is : g.raw ≡ l.group = eqb-true g.raw l.group found.4 in
+    let what = (get_or before j s).what in
+    let earlier : links_to device.raw object g.raw what ≡ true =
+    ap (λ (n : ℕ). links_to n object g.raw what) device_is ∙ ap (λ (n : ℕ). links_to l.device n g.raw what) object_is ∙ ap (λ (n : ℕ). links_to l.device l.object n what) group_is ∙ there in
     let again : some_line (links_to device.raw object g.raw) before ≡ true = list_any_at (λ (t : Statement). links_to device.raw object g.raw t.what) before j s lt earlier in
     list_any_at (λ (x : GroupAddr). some_line (links_to device.raw object x.raw) before) groups found.0 g found.2 (rw found.3 again)
 repeats_link before Version j link s lt there here = absurd (false≢true here)

@@ -1,11 +1,11 @@
 -- Maps by borrowed names.
-use Rattle.std.proofs.Common.{◌≡◌, ℕ, ◌<◌, Bool, true, false, cond, eqb, not, ◌||◌, List, length, drop, get_or, Option, Some, None, refl, sym}
+use Rattle.std.proofs.Common.{◌≡◌, ℕ, ◌<◌, Bool, true, false, cond, eqb, not, ◌||◌, List, length, get_or, Option, Some, None, refl, sym}
 use Rattle.std.specs.Prelude.{bytes_eq, is_some, is_none, IfSome, IfNone}
 use Rattle.std.specs.Borrow.{Bor}
 use Rattle.std.specs.Option.{option_map, option_or, option_flatten}
 use Rattle.std.proofs.lemmas.List.Folds.{list_any_at}
 use Rattle.std.specs.HashMap.{HashMap, get_by}
-use Rattle.std.proofs.lemmas.Bool.{eqb-true, and_parts}
+use Rattle.std.proofs.lemmas.Bool.{eqb-true}
 use Rattle.std.proofs.lemmas.Option.{MatchOption-at_some, same_Some}
 use Rattle.std.proofs.lemmas.Slice.Eq.{bytes_eq-Decides}
 use Rattle.knx_model.specs.declared.catalogue.model.Model.{Model}
@@ -17,13 +17,7 @@ use Rattle.knx_model.specs.declared.project.What.TheVariants.{Version, Title, Gr
 use Rattle.knx_model.specs.Models.{model_named}
 use Rattle.knx_model.specs.Rules.{named_model, model_in}
 use Rattle.project_check.specs.Keys.{index_of, names_model}
-use Rattle.project_check.specs.Knowing.{Indexes, IndexesNamed, IsKept, IsNamed, IsOfVersion}
-use Rattle.std.specs.List.{list_all}
-use Rattle.std.proofs.lemmas.List.Elements.{All-get_or}
-use Rattle.std.proofs.lemmas.List.Sums.{AllPass-from_list_all}
-use Rattle.knx_model.specs.declared.project.TextVersion.{TextVersion}
-use Rattle.knx_model.specs.declared.project.TextVersion.TheVariants.{One, Two}
-use Rattle.knx_model.specs.Statements.{is_spellable, are_spelled, are_spellable, version_of, is_version, is_version_2}
+use Rattle.project_check.specs.Knowing.{Indexes, IndexesNamed, IsKept, IsNamed}
 use Rattle.project_check.specs.declared.models.ModelIndex.{ModelIndex}
 
 -- a value is put where there was none
@@ -162,25 +156,3 @@ put_kept catalogue put kept found false model name is indexed empty rest new = r
 pub at_put : {X : Type 0} (b : Bool) (put kept : X) (old : Option X) → cond b (Some put) old ≡ Some kept → (b ≡ true → kept ≡ put) × (b ≡ false → old ≡ Some kept)
 at_put true put kept old e = (λ _. sym (same_Some put kept e), λ none. absurd (cc))
 at_put false put kept old e = (λ same. absurd (cc), λ _. e)
-
-version_said : (ss : List Statement) (what : What) → is_spellable (version_of ss) what ≡ true → IsOfVersion ss what
-version_said ss (Send device object group) e = two (version_of ss) (and_parts (is_version_2 (version_of ss)) _ e).0
-  where
-    two : (v : TextVersion) → is_version_2 v ≡ true → v ≡ Two
-    two One e = absurd cc
-    two Two e = refl
-version_said ss Version e = tt
-version_said ss (Title name) e = tt
-version_said ss (Group group name) e = tt
-version_said ss (Device device model) e = tt
-version_said ss (Object device n size flags) e = tt
-version_said ss (Link device object groups) e = tt
-version_said ss (Flags device object flags) e = tt
-version_said ss (Param device name value) e = tt
-
--- a `send` line of statements that can be spelled stands in version 2
-pub of_version : (ss : List Statement) (i : ℕ) (s : Statement) → are_spellable ss ≡ true → i < length ss → s ≡ get_or ss i s → IsOfVersion ss s.what
-of_version ss i s e lt is =
-    let spelled : are_spelled (version_of ss) ss ≡ true = (and_parts (are_spelled (version_of ss) ss) (list_all (λ t. not (is_version t.what)) (drop 1 ss)) e).0 in
-    let here : is_spellable (version_of ss) (get_or ss i s).what ≡ true = All-get_or (λ t. is_spellable (version_of ss) t.what ≡ true) ss i s lt (AllPass-from_list_all (λ t. is_spellable (version_of ss) t.what) ss spelled) in
-    version_said ss s.what (rw (← is) at here)

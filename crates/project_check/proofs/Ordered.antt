@@ -6,7 +6,7 @@ use Rattle.std.proofs.lemmas.Bool.{eqb-true, ltb-false, cases_Bool, and_parts, f
 use Rattle.std.specs.Cmp.{IsTotalOrder}
 use Rattle.std.proofs.lemmas.Cmp.{nat_cmp_total, on_total, then_total}
 use Rattle.std.proofs.lemmas.List.Sorted.{ranks_by, sorted_far}
-use Rattle.project_check.specs.Links.{link_eq}
+use Rattle.project_check.specs.Links.{link_eq, link_cmp, line_cmp}
 use Rattle.project_check.specs.declared.links.Link.{Link}
 use Rattle.project_check.specs.declared.links.LinkLine.{LinkLine}
 
@@ -27,13 +27,7 @@ link_eq_other a b e same = false≢true (sym e ∙ rw (eq-eqb a.device b.device 
 
 -- ---- lines in ascending order
 
-abbrev link_cmp : Link → Link → Ordering
-link_cmp a b = ordering_then (nat_cmp a.device b.device) (ordering_then (nat_cmp a.object b.object) (nat_cmp a.group b.group))
-
-abbrev pub line_cmp : LinkLine → LinkLine → Ordering
-line_cmp a b = ordering_then (link_cmp a.link b.link) (nat_cmp a.place b.place)
-
-links_total : IsTotalOrder link_cmp
+pub links_total : IsTotalOrder link_cmp
 links_total = then_total (on_total (λ l. l.device) nat_cmp_total) (then_total (on_total (λ l. l.object) nat_cmp_total) (on_total (λ l. l.group) nat_cmp_total))
 
 lines_total : IsTotalOrder line_cmp

@@ -43,7 +43,7 @@ first_or f true c x rest more e = refl
 first_or f false c x rest more e = e
 
 groups_first : (catalogue : List NamedModel) (all : List Statement) (g place : ℕ) (device : IndAddr) (object : ℕ) (groups : List GroupAddr) (lines : List LinkLine) (rest : Option (ℕ × ℕ)) → object_in_lines catalogue all g lines ≡ option_map (known_at catalogue all) rest
-    → object_in_lines catalogue all g (map (at_place place) (map (link_to device object) groups) ++ lines) ≡ option_map (known_at catalogue all) (elim (cond (has_group g groups) (Some (device.raw, object)) None) as (λ _. Option (ℕ × ℕ)) [ None ↦ rest | Some x ↦ Some x ])
+    → object_in_lines catalogue all g (map (at_place place) (map (link_to device object) groups) ++ lines) ≡ option_map (known_at catalogue all) (elim (cond {A = Option (ℕ × ℕ)} (has_group g groups) (Some (device.raw, object)) None) as (λ _. Option (ℕ × ℕ)) [ None ↦ rest | Some x ↦ Some x ])
 groups_first catalogue all g place device object [] lines rest e = e
 groups_first catalogue all g place device object (h ∷ groups) lines rest e =
     first_or (known_at catalogue all) (eqb h.raw g) (has_group g groups) (device.raw, object) rest (object_in_lines catalogue all g (map (at_place place) (map (link_to device object) groups) ++ lines)) (groups_first catalogue all g place device object groups lines rest e)

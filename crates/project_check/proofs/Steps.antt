@@ -1,5 +1,5 @@
 -- One statement more.
-use Rattle.std.proofs.Common.{◌≡◌, ℕ, ◌+◌, Bool, true, false, cond, eqb, ◌||◌, List, [], ◌∷◌, ◌++◌, Option, Some, None, refl, sym, ap, ◌∙◌, subst, arith}
+use Rattle.std.proofs.Common.{◌≡◌, ℕ, ◌+◌, Bool, true, false, cond, eqb, ◌||◌, List, [], ◌∷◌, ◌++◌, length, Option, Some, None, refl, sym, ap, ◌∙◌, subst, arith}
 use Rattle.std.specs.Prelude.{is_some}
 use Rattle.std.specs.Option.{option_or}
 use Rattle.std.specs.HashSet.{contains}
@@ -136,8 +136,24 @@ counted_more test ss s old new e before = e ∙ ap (counted (test s.what)) befor
 pub links_more : (d : ℕ) (ss : List Statement) (s : Statement) → count_links d (ss ++ s ∷ []) ≡ count_links d ss + links_of_device d s.what
 links_more d ss s = sum_by-append (λ x. links_of_device d x.what) ss (s ∷ []) ∙ omega arith
 
-capped_links : (n k : ℕ) → capped (capped n + k) ≡ capped (n + k)
-capped_links n k = omega arith
+capped_if : (b : Bool) (n k : ℕ) → cond b (capped (capped n + k)) (capped n) ≡ capped (n + cond b k 0)
+capped_if true n k = omega arith
+capped_if false n k = omega arith
+
+nothing_more : (n : ℕ) → capped n ≡ capped (n + 0)
+nothing_more n = omega arith
+
+-- a count that stopped before goes on as one that didn't
+capped_links : (d : ℕ) (what : What) (n : ℕ) → with_links d what (capped n) ≡ capped (n + links_of_device d what)
+capped_links d (Link device object groups) n = capped_if (eqb device.raw d) n (length groups)
+capped_links d Version n = nothing_more n
+capped_links d (Title name) n = nothing_more n
+capped_links d (Group group name) n = nothing_more n
+capped_links d (Device device model) n = nothing_more n
+capped_links d (Object device k size flags) n = nothing_more n
+capped_links d (Send device object group) n = nothing_more n
+capped_links d (Flags device object flags) n = nothing_more n
+capped_links d (Param device name value) n = nothing_more n
 
 pub precedes_more : (d e : Earlier) (ss : List Statement) (s : Statement)
     → ((f : ℕ → Bool) → Holds d.groups f → Holds e.groups (λ g. f g || declares_group g s.what))
@@ -151,5 +167,5 @@ precedes_more d e ss s groups devices objects device_lines links before = record
   devices = marked_more declares_device e.devices ss s (devices (λ a. some_line (declares_device a) ss) before.devices);
   objects = λ o. objects o ∙ ap (λ b. b || declares_object o.device o.number s.what) (before.objects o) ∙ sym (some_more (declares_object o.device o.number) ss s);
   device_lines = counted_more is_device_line ss s d.device_lines e.device_lines device_lines before.device_lines;
-  links = λ a count is. links (λ b. capped (count_links b ss)) before.links a count is ∙ capped_links (count_links a ss) (links_of_device a s.what) ∙ ap capped (sym (links_more a ss s));
+  links = λ a count is. links (λ b. capped (count_links b ss)) before.links a count is ∙ capped_links a s.what (count_links a ss) ∙ ap capped (sym (links_more a ss s));
 }

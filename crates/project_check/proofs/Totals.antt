@@ -102,6 +102,6 @@ sum_more_at f ss i s lt is = ap (sum_by f) (take_more ss i s lt ∙ ap (λ (t : 
 
 -- a sum of the first statements is at most that of all
 pub sum_up_to : (f : Statement → ℕ) (ss : List Statement) (i : ℕ) → sum_by f (take i ss) ≤ sum_by f ss
-sum_up_to f [] i = omega arith
-sum_up_to f (s ∷ ss) zero = omega arith
+sum_up_to f ss zero = let none : sum_by f (take 0 ss) ≡ 0 = refl in omega (arith, none)
+sum_up_to f [] (suc i) = omega arith
 sum_up_to f (s ∷ ss) (suc i) = omega (arith, sum_by-cons f s (take i ss), sum_by-cons f s ss, sum_up_to f ss i)

@@ -10,13 +10,11 @@ use Rattle.knx_model.specs.declared.catalogue.model.ModelObject.{ModelObject}
 use Rattle.knx_model.specs.declared.catalogue.model.NamedModel.{NamedModel}
 use Rattle.knx_model.specs.declared.project.Statement.{Statement}
 use Rattle.knx_model.specs.declared.project.What.{What}
-use Rattle.knx_model.specs.declared.project.What.TheVariants.{Group, Device, Object, Link as LinkStated, Send}
+use Rattle.knx_model.specs.declared.project.What.TheVariants.{Group, Device, Object, Link as LinkStated}
 use Rattle.knx_model.specs.Models.{model_named, object_in, field_in}
-use Rattle.knx_model.specs.Rules.{some_line, count_lines, count_links, links_of_device, first_some, declares_group, declares_device, declares_object, is_device_line, size_in, model_in, model_of, size_of, first_linked, duplicate_device, duplicate_group, too_many_devices, too_many_links}
+use Rattle.knx_model.specs.Rules.{some_line, count_lines, count_links, first_some, declares_group, declares_device, declares_object, is_device_line, size_in, model_in, model_of, size_of, first_linked, duplicate_device, duplicate_group, too_many_devices, too_many_links}
 use Rattle.project_check.specs.Keys.{object_eq, range_of, index_of, names_model}
-use Rattle.knx_model.specs.declared.project.TextVersion.TheVariants.{Two}
-use Rattle.knx_model.specs.Statements.{version_of}
-use Rattle.project_check.specs.Links.{IsFirstRepeat, HoldsLinks}
+use Rattle.project_check.specs.Links.{IsFirstRepeat, AreAscending}
 use Rattle.project_check.specs.declared.declared.Declared.{Declared}
 use Rattle.project_check.specs.declared.earlier.Earlier.{Earlier}
 use Rattle.project_check.specs.declared.group_object.GroupObject.{GroupObject}
@@ -118,16 +116,11 @@ pub record DeclaresAll (catalogue : List NamedModel) (w : Whole) (ss : List Stat
   pub declared : Declares catalogue w.declared ss
   pub first_objects : FirstObjects catalogue ss w.first_objects
   pub first_repeat : IsFirstRepeat ss w.first_repeat
-  pub linked : HoldsLinks w.linked ss
+  pub links : AreAscending w.links.items ss
 
 -- the model that a `device` line names stands in a line of the text
 abbrev pub IsNamed : List Statement → What → Type 0
 IsNamed ss what = (name : List ℕ) → names_model name what ≡ true → some_line (names_model name) ss ≡ true
-
--- a `send` line stands in a text of version 2
-abbrev pub IsOfVersion : List Statement → What → Type 0
-IsOfVersion ss (Send device object group) = version_of ss ≡ Two
-IsOfVersion ss _ = Unit {0}
 
 -- ---- of the statements before a line
 
@@ -141,7 +134,8 @@ counted counts n = if counts then capped (n + 1) else n
 
 -- more links of a device, by a line
 abbrev pub with_links : ℕ → What → ℕ → ℕ
-with_links d what n = capped (n + links_of_device d what)
+with_links d (LinkStated device object groups) n = if device.raw == d then capped (n + length groups) else n
+with_links d _ n = n
 
 -- the tables, the set and the counts are those of these statements
 pub record Precedes (e : Earlier) (ss : List Statement) : Type 0 where

@@ -1,17 +1,18 @@
 -- The links of the `link` lines of a text, and the first line that repeats a link of an earlier one.
-use Rattle.std.specs.Prelude.{◌≡◌, ℕ, ◌+◌, ◌<◌, ◌≤◌, ◌==◌, nat_lt, Bool, false, ◌&&◌, List, [], ◌∷◌, ◌++◌, length, map, take, get_or, Option, Some, None, IfSome, min}
+use Rattle.std.specs.Prelude.{◌≡◌, ℕ, ◌+◌, ◌<◌, ◌≤◌, ◌==◌, nat_lt, Bool, false, ◌&&◌, List, [], ◌∷◌, ◌++◌, length, map, take, get_or, Option, Some, None, IfSome, IsPermutation, min}
 use Rattle.std.specs.Bool.{nat_eq}
-use Rattle.std.specs.HashSet.{HashSet, contains}
+use Rattle.std.specs.List.Sorted.{IsSorted}
+use Rattle.std.specs.Ordering.{nat_cmp, ordering_then}
+use Rattle.std.specs.declared.cmp.Ordering.{Ordering}
 use Rattle.knx_model.specs.declared.address.GroupAddr.{GroupAddr}
 use Rattle.knx_model.specs.declared.address.IndAddr.{IndAddr}
 use Rattle.knx_model.specs.declared.project.Statement.{Statement}
 use Rattle.knx_model.specs.declared.project.What.{What}
 use Rattle.knx_model.specs.declared.project.What.TheVariants.{Link as LinkStated}
-use Rattle.knx_model.specs.declared.project.TextVersion.TheVariants.{Two}
-use Rattle.knx_model.specs.Rules.{some_line, links_to, links_again}
-use Rattle.knx_model.specs.Statements.{version_of}
+use Rattle.knx_model.specs.Rules.{links_again}
 use Rattle.project_check.specs.declared.links.Link.{Link}
 use Rattle.project_check.specs.declared.links.LinkLine.{LinkLine}
+use Rattle.project_check.specs.declared.links.SortedLinks.{SortedLinks}
 
 -- the link of a device's object to a group
 abbrev pub link_to : IndAddr → ℕ → GroupAddr → Link
@@ -73,6 +74,20 @@ is_at (Some first) k = first == k
 abbrev pub IsFirstRepeat : List Statement → Option ℕ → Type 0
 IsFirstRepeat ss first = (k : ℕ) (s : Statement) → k < length ss → IsUpTo first k → links_again (take k ss) (get_or ss k s).what ≡ is_at first k
 
--- of a text of version 2 the set has just the links
-abbrev pub HoldsLinks : {S : Type 0} → HashSet Link S → List Statement → Type 0
-HoldsLinks linked ss = version_of ss ≡ Two → (l : Link) → contains link_eq linked l ≡ some_line (links_to l.device l.object l.group) ss
+-- ---- the links in ascending order: by device, object, group and place
+
+abbrev pub link_cmp : Link → Link → Ordering
+link_cmp a b = ordering_then (nat_cmp a.device b.device) (ordering_then (nat_cmp a.object b.object) (nat_cmp a.group b.group))
+
+abbrev pub line_cmp : LinkLine → LinkLine → Ordering
+line_cmp a b = ordering_then (link_cmp a.link b.link) (nat_cmp a.place b.place)
+
+-- the links of a text, ascending
+pub record AreAscending (links : List LinkLine) (ss : List Statement) : Type 0 where
+  pub all : IsPermutation (link_lines ss) links
+  pub sorted : IsSorted line_cmp links
+
+-- the same with the first line that repeats a link of an earlier one
+pub record AreSorted (sorted : SortedLinks) (ss : List Statement) : Type 0 where
+  pub links : AreAscending sorted.links.items ss
+  pub first_repeat : IsFirstRepeat ss sorted.first_repeat

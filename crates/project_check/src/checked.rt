@@ -1,18 +1,17 @@
 //! A project that breaks no rule, or the least line that breaks one.
 
-ghost use Rattle.std.specs.Prelude.{◌≡◌, ◌≢◌, None, Some, IsTrue, IfOk, IfErr, OnOk, IfSome, map, slice_get, IsPermutation};
+ghost use Rattle.std.specs.Prelude.{◌≡◌, ◌≢◌, None, Some, IfOk, IfErr, OnOk, IfSome, map, slice_get, IsPermutation};
 ghost use Rattle.std.specs.List.Sorted.{IsStrictlyIncreasing};
 ghost use Rattle.knx_model.specs.declared.refusal.Why.TheVariants.{NoMemory as OutOfMemory};
 ghost use Rattle.knx_model.specs.Counts.{counts_of};
 ghost use Rattle.knx_model.specs.Rules.{first_broken, devices_of, has_device};
-ghost use Rattle.knx_model.specs.Statements.{are_spellable};
 ghost use Rattle.project_check.specs.Devices.{raw_of};
-ghost use Rattle.project_check.specs.Links.{IsFirstRepeat};
+ghost use Rattle.project_check.specs.Links.{AreSorted};
 
 use crate::counted::totals_of;
 use crate::devices::{ascending_devices, first_device};
 use crate::earlier::Earlier;
-use crate::links::{first_repeat, first_repeat_in_threads};
+use crate::links::{SortedLinks, sorted_links, sorted_links_in_threads};
 use crate::named_models::NamedModels;
 use crate::rules::Whole;
 use knx_model::{Catalogue, Counts, IndAddr, NoMemory, Refused, Statement, Why};
@@ -91,20 +90,19 @@ impl<'b, 'a> Checked<'b, 'a> {
     }
 }
 
-/// The first statement that breaks a rule, where the first that repeats a link is known.
+/// The first statement that breaks a rule, where the links are sorted.
 fn first_broken(
     alloc: Global,
     catalogue: &Catalogue,
     statements: &[Statement<'_>],
-    first_repeat: Option<usize>,
+    sorted: SortedLinks,
 ) -> Result<Option<Refused>, AllocError>
-    requires repeat { IsFirstRepeat statements.now first_repeat }
-    requires spelled { IsTrue (are_spellable statements.now) }
+    requires { AreSorted sorted statements.now }
     ensures found { IfOk result (λ found. found ≡ first_broken catalogue.now statements.now) }
     ensures never { IfOk result (λ found. IfSome found (λ refused. refused.why ≢ OutOfMemory tt)) }
 {
     let models = NamedModels::of(alloc, catalogue, statements)?;
-    let whole = Whole::of(alloc, &models, statements, first_repeat)?;
+    let whole = Whole::of(alloc, &models, statements, sorted)?;
     let mut earlier = Earlier::new(alloc)?;
     for (place, statement) in statements.iter().enumerate() {
         let repeated = earlier.add(statement)?;
@@ -118,25 +116,20 @@ fn first_broken(
     Ok(None)
 }
 
-/// The rules are checked, where the first statement that repeats a link is known.
+/// The rules are checked, where the links are sorted.
 fn check_rules<'b, 'a>(
     alloc: Global,
     project: &'b Project<'a>,
     catalogue: &'b Catalogue,
-    first_repeat: Option<usize>,
+    sorted: SortedLinks,
 ) -> Result<Checked<'b, 'a>, Refused>
-    requires { IsFirstRepeat project.now.statements first_repeat }
+    requires { AreSorted sorted project.now.statements }
     ensures checked { IfOk result (λ c. c ≡ record { statements = project.now.statements; catalogue = catalogue.now }) }
     ensures sound { OnOk result (first_broken catalogue.now project.now.statements ≡ None) }
     ensures refused { IfErr result (λ e. e.why ≢ OutOfMemory tt → first_broken catalogue.now project.now.statements ≡ Some e) }
     ensures memory { IfErr result (λ e. e.why ≡ OutOfMemory tt → e.line ≡ 0) }
 {
-    match first_broken(
-        alloc,
-        catalogue,
-        project.statements.as_slice(),
-        first_repeat,
-    ) {
+    match first_broken(alloc, catalogue, project.statements.as_slice(), sorted) {
         Ok(None) => match ascending_devices(alloc, project.statements.as_slice()) {
             Ok(devices) => Ok(Checked {
                 project,
@@ -162,8 +155,8 @@ pub fn check<'b, 'a>(
     ensures refused { IfErr result (λ e. e.why ≢ OutOfMemory tt → first_broken catalogue.now project.now.statements ≡ Some e) }
     ensures memory { IfErr result (λ e. e.why ≡ OutOfMemory tt → e.line ≡ 0) }
 {
-    match first_repeat(alloc, project.statements.as_slice()) {
-        Ok(first_repeat) => check_rules(alloc, project, catalogue, first_repeat),
+    match sorted_links(alloc, project.statements.as_slice()) {
+        Ok(sorted) => check_rules(alloc, project, catalogue, sorted),
         Err(error) => Err(out_of_memory(error)),
     }
 }
@@ -180,8 +173,8 @@ pub fn check_in_threads<'b, 'a, R: Threads + Sync>(
     ensures refused { IfErr result (λ e. e.why ≢ OutOfMemory tt → first_broken catalogue.now project.now.statements ≡ Some e) }
     ensures memory { IfErr result (λ e. e.why ≡ OutOfMemory tt → e.line ≡ 0) }
 {
-    match first_repeat_in_threads(rt, alloc, project.statements.as_slice()) {
-        Ok(first_repeat) => check_rules(alloc, project, catalogue, first_repeat),
+    match sorted_links_in_threads(rt, alloc, project.statements.as_slice()) {
+        Ok(sorted) => check_rules(alloc, project, catalogue, sorted),
         Err(error) => Err(out_of_memory(error)),
     }
 }

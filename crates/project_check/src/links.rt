@@ -1,21 +1,17 @@
 //! The links of a text, and the first line that repeats one.
 
 ghost use Rattle.std.specs.Prelude.{◌≡◌, ◌++◌, List, length, map, Some, if◌then◌else◌, IfOk, OnOk};
-ghost use Rattle.std.specs.List.{list_any};
-ghost use Rattle.std.specs.HashSet.{contains};
 ghost use Rattle.knx_model.specs.declared.project.Statement.{Statement as Stated};
-ghost use Rattle.knx_model.specs.Statements.{version_of, is_version_2};
-ghost use Rattle.project_check.specs.declared.links.Link.{Link as Linked};
-ghost use Rattle.project_check.specs.Links.{link_to, at_place, link_eq, comes_again, lesser, lines_of, link_lines, IsLeastRepeat, IsFirstRepeat, HoldsLinks};
+ghost use Rattle.knx_model.specs.Rules.{some_line, links_to};
+ghost use Rattle.project_check.specs.Links.{link_to, at_place, comes_again, lesser, lines_of, link_lines, IsLeastRepeat, AreAscending, AreSorted};
 
 use knx_model::{GroupAddr, IndAddr, Statement, What};
 use rayon::prelude::*;
 use std::alloc::{AllocError, Global};
-use std::collections::HashSet;
 use std::thread::Threads;
 
 /// A link: the raw address of its device, its object there, and its raw group.
-#[derive(Clone, Copy, PartialEq, Eq, PartialOrd, Ord, Hash)]
+#[derive(Clone, Copy, PartialEq, Eq, PartialOrd, Ord)]
 pub struct Link {
     pub device: u16,
     pub object: u8,
@@ -76,42 +72,6 @@ pub fn link_lines(alloc: Global, statements: &[Statement<'_>]) -> Result<Vec<Lin
     Ok(links)
 }
 
-/// Whether statements are of version 2, which alone has `send` lines.
-fn is_version_2(statements: &[Statement<'_>]) -> bool
-    ensures { result ≡ is_version_2 (version_of statements.now) }
-{
-    match statements {
-        [first, ..] => matches!(first.what, What::Version),
-        [] => false,
-    }
-}
-
-/// The links of a text of version 2, for its `send` lines to be looked up; of another text none.
-pub fn linked(
-    alloc: Global,
-    statements: &[Statement<'_>],
-    links: &[LinkLine],
-) -> Result<HashSet<Link>, AllocError>
-    ensures { IfOk result (λ linked. links.now ≡ link_lines statements.now → HoldsLinks linked statements.now) }
-{
-    if is_version_2(statements) {
-        set_of(alloc, links)
-    } else {
-        Ok(HashSet::new(alloc))
-    }
-}
-
-/// The links at these places, each once.
-fn set_of(alloc: Global, links: &[LinkLine]) -> Result<HashSet<Link>, AllocError>
-    ensures { IfOk result (λ set. (l : Linked) → contains link_eq set l ≡ list_any (λ line. link_eq line.link l) links.now) }
-{
-    let mut set = HashSet::new(alloc);
-    for line in links {
-        set.insert(line.link)?;
-    }
-    Ok(set)
-}
-
 /// The lesser of two places, where there are two.
 fn lesser(least: Option<usize>, place: usize) -> usize
     ensures { result ≡ lesser least place }
@@ -146,34 +106,51 @@ fn least_repeat(links: &[LinkLine]) -> Option<usize>
     least
 }
 
-/// The place of the first `link` line that repeats a link of an earlier one.
-pub fn first_repeat(
-    alloc: Global,
-    statements: &[Statement<'_>],
-) -> Result<Option<usize>, AllocError>
-    ensures { IfOk result (IsFirstRepeat statements.now) }
+/// The links of a text in ascending order, and the place of the first line that repeats a link of an earlier one.
+#[derive(Drop)]
+pub struct SortedLinks {
+    pub links: Vec<LinkLine>,
+    pub first_repeat: Option<usize>,
+}
+
+impl SortedLinks {
+    /// Of links that ascend.
+    fn of(links: Vec<LinkLine>) -> SortedLinks
+        ensures { (ss : List Stated) → AreAscending links.items ss → AreSorted result ss }
+    {
+        let first_repeat = least_repeat(links.as_slice());
+        SortedLinks {
+            links,
+            first_repeat,
+        }
+    }
+}
+
+/// The links of a text in ascending order.
+pub fn sorted_links(alloc: Global, statements: &[Statement<'_>]) -> Result<SortedLinks, AllocError>
+    ensures { IfOk result (λ sorted. AreSorted sorted statements.now) }
 {
     let mut links = link_lines(alloc, statements)?;
     links.sort_unstable();
-    Ok(least_repeat(links.as_slice()))
+    Ok(SortedLinks::of(links))
 }
 
-/// The place of the first line of these links that repeats a link of an earlier one. They are sorted in threads.
-fn sorted_repeat<R: Threads + Sync>(rt: &R, links: &mut [LinkLine]) -> Option<usize>
-    ensures { (ss : List Stated) → links.old ≡ link_lines ss → IsFirstRepeat ss result }
-{
-    par_sort_unstable(rt, links);
-    least_repeat(links)
-}
-
-/// The same as `first_repeat`, where the links are sorted in as many threads as there are processors.
-pub fn first_repeat_in_threads<R: Threads + Sync>(
+/// The same as `sorted_links`. They are sorted in as many threads as there are processors.
+pub fn sorted_links_in_threads<R: Threads + Sync>(
     rt: &R,
     alloc: Global,
     statements: &[Statement<'_>],
-) -> Result<Option<usize>, AllocError>
-    ensures { IfOk result (IsFirstRepeat statements.now) }
+) -> Result<SortedLinks, AllocError>
+    ensures { IfOk result (λ sorted. AreSorted sorted statements.now) }
 {
     let mut links = link_lines(alloc, statements)?;
-    Ok(sorted_repeat(rt, links.as_mut_slice()))
+    par_sort_unstable(rt, links.as_mut_slice());
+    Ok(SortedLinks::of(links))
+}
+
+/// Whether a link is one of these, which ascend.
+pub fn is_linked(links: &[LinkLine], link: Link) -> bool
+    ensures { (ss : List Stated) → AreAscending links.now ss → result ≡ some_line (links_to link.device link.object link.group) ss }
+{
+    links.binary_search_by_key(&link, |line| line.link).is_ok()
 }

@@ -1,16 +1,14 @@
 //! Which rules a statement breaks, and the one of the least number.
 
-ghost use Rattle.std.specs.Prelude.{◌≡◌, ◌≢◌, ◌&&◌, true, ℕ, List, IfOk, IfSome};
+ghost use Rattle.std.specs.Prelude.{◌≡◌, ◌≢◌, ◌&&◌, ◌||◌, true, ℕ, List, IfOk, IfSome};
 ghost use Rattle.std.specs.List.{list_any};
 ghost use Rattle.knx_model.specs.declared.catalogue.model.NamedModel.{NamedModel};
 ghost use Rattle.knx_model.specs.declared.project.Statement.{Statement as Stated};
-ghost use Rattle.knx_model.specs.declared.project.What.TheVariants.{Device as DeviceLine, Object as ObjectLine, Link as LinkLine, Send as SendLine, Flags as FlagsLine, Param as ParamLine};
-ghost use Rattle.knx_model.specs.declared.project.TextVersion.TheVariants.{Two};
-ghost use Rattle.knx_model.specs.Statements.{version_of};
+ghost use Rattle.knx_model.specs.declared.project.What.TheVariants.{Device as DeviceLine, Object as ObjectLine, Link as LinkStated, Send as SendLine, Flags as FlagsLine, Param as ParamLine};
 ghost use Rattle.knx_model.specs.Rules.{rule_of, some_line, has_group, repeats_group, is_undeclared, duplicate_object, links_again, size_of_first, first_linked, differ, differs_from_first};
 ghost use Rattle.project_check.specs.Keys.{names_model};
-ghost use Rattle.project_check.specs.Knowing.{AreNamed, DeclaresAll, repeats, IsNamed, IsOfVersion};
-ghost use Rattle.project_check.specs.Links.{IsFirstRepeat, is_at};
+ghost use Rattle.project_check.specs.Knowing.{AreNamed, DeclaresAll, repeats, IsNamed};
+ghost use Rattle.project_check.specs.Links.{AreSorted, is_at};
 
 use crate::broken::first_broken_rule;
 use crate::by_address::ByAddress;
@@ -18,11 +16,10 @@ use crate::declared::{Declared, first_objects};
 use crate::earlier::{MOST_DEVICES, MOST_LINKS, Repeated};
 use crate::group_object::GroupObject;
 use crate::known::KnownObject;
-use crate::links::{Link, link_lines, linked};
+use crate::links::{Link, LinkLine, SortedLinks, is_linked, link_lines};
 use crate::named_models::NamedModels;
 use knx_model::{GroupAddr, IndAddr, Statement, What, Why};
 use std::alloc::{AllocError, Global};
-use std::collections::HashSet;
 
 /// The 256th `device` line.
 const TOO_MANY_DEVICES: Why = Why::TooMany {
@@ -35,15 +32,15 @@ const TOO_MANY_LINKS: Why = Why::TooMany {
 };
 
 /// What is known of a whole text: what it declares, what is known of the group object of the first link of each group, none where
-/// the group has no link, the place of the first `link` line that repeats a link of an earlier one, and the links of a text of
-/// version 2.
+/// the group has no link, the place of the first `link` line that repeats a link of an earlier one, and its links in ascending
+/// order.
 #[derive(Drop)]
 pub struct Whole<'b, 'a> {
     pub models: &'b NamedModels<'a>,
     pub declared: Declared<'b, 'a>,
     pub first_objects: ByAddress<Option<KnownObject>>,
     pub first_repeat: Option<usize>,
-    pub linked: HashSet<Link>,
+    pub links: Vec<LinkLine>,
 }
 
 /// Whether two sizes are known and differ.
@@ -78,26 +75,25 @@ fn repeats_group(groups: &[GroupAddr]) -> bool
 }
 
 impl<'b, 'a> Whole<'b, 'a> {
-    /// What is known of these statements, of which this is the first that repeats a link.
+    /// What is known of these statements, of which these are the links.
     pub fn of(
         alloc: Global,
         models: &'b NamedModels<'a>,
         statements: &'a [Statement<'a>],
-        first_repeat: Option<usize>,
+        sorted: SortedLinks,
     ) -> Result<Whole<'b, 'a>, AllocError>
-        requires { IsFirstRepeat statements.now first_repeat }
+        requires { AreSorted sorted statements.now }
         ensures { IfOk result (λ whole. (catalogue : List NamedModel) → AreNamed catalogue models.now statements.now → DeclaresAll catalogue whole statements.now) }
     {
         let declared = Declared::by_all(alloc, models, statements)?;
         let links = link_lines(alloc, statements)?;
         let first_objects = first_objects(alloc, &declared, links.as_slice())?;
-        let linked = linked(alloc, statements, links.as_slice())?;
         Ok(Whole {
             models,
             declared,
             first_objects,
-            first_repeat,
-            linked,
+            first_repeat: sorted.first_repeat,
+            links: sorted.links,
         })
     }
 
@@ -141,7 +137,7 @@ impl<'b, 'a> Whole<'b, 'a> {
         object: u8,
         groups: &[GroupAddr],
     ) -> Option<Why>
-        ensures { (catalogue : List NamedModel) (before all : List Stated) → DeclaresAll catalogue self.now all → repeated ≡ repeats before (LinkLine device object groups.now) → links_again before (LinkLine device object groups.now) ≡ is_at self.now.first_repeat place → result ≡ rule_of catalogue before all (LinkLine device object groups.now) }
+        ensures { (catalogue : List NamedModel) (before all : List Stated) → DeclaresAll catalogue self.now all → repeated ≡ repeats before (LinkStated device object groups.now) → links_again before (LinkStated device object groups.now) ≡ is_at self.now.first_repeat place → result ≡ rule_of catalogue before all (LinkStated device object groups.now) }
     {
         let known = self.declared.known_object(GroupObject {
             device: device.raw,
@@ -149,7 +145,7 @@ impl<'b, 'a> Whole<'b, 'a> {
         });
         let lacks_group = self.lacks_group(groups);
         let missing = known.is_missing();
-        let twice = self.repeats_link(place) || repeats_group(groups);
+        let twice = self.links_twice(place, groups);
         let declared = self.declared.has_device(device.raw);
         let differs = self.size_differs(declared, known.size, groups);
         first_broken_rule(&[
@@ -176,7 +172,7 @@ impl<'b, 'a> Whole<'b, 'a> {
 
     /// The first rule that a `send` line breaks.
     fn send_broken(&self, device: IndAddr, object: u8, group: GroupAddr) -> Option<Why>
-        ensures { (catalogue : List NamedModel) (before all : List Stated) → DeclaresAll catalogue self.now all → version_of all ≡ Two → result ≡ rule_of catalogue before all (SendLine device object group) }
+        ensures { (catalogue : List NamedModel) (before all : List Stated) → DeclaresAll catalogue self.now all → result ≡ rule_of catalogue before all (SendLine device object group) }
     {
         let known = self.declared.known_object(GroupObject {
             device: device.raw,
@@ -185,11 +181,12 @@ impl<'b, 'a> Whole<'b, 'a> {
         let has_group = self.declared.has_group(group.raw);
         let missing = known.is_missing();
         let declared = self.declared.has_device(device.raw);
-        let linked = self.linked.contains(&Link {
+        let link = Link {
             device: device.raw,
             object,
             group: group.raw,
-        });
+        };
+        let linked = is_linked(self.links.as_slice(), link);
         first_broken_rule(&[
             (!has_group, Why::UnknownGroup),
             (missing, Why::UnknownObject),
@@ -206,6 +203,13 @@ impl<'b, 'a> Whole<'b, 'a> {
             Some(first) => first == place,
             None => false,
         }
+    }
+
+    /// Whether the `link` line at a place links to a group that an earlier one of its object links to, or to a group twice.
+    fn links_twice(&self, place: usize, groups: &[GroupAddr]) -> bool
+        ensures { result ≡ (is_at self.now.first_repeat place || repeats_group groups.now) }
+    {
+        self.repeats_link(place) || repeats_group(groups)
     }
 
     /// The size code of the group object of a group's first `link` line.
@@ -264,7 +268,7 @@ impl<'b, 'a> Whole<'b, 'a> {
 
     /// The rule of the least number that a statement breaks.
     pub fn first_rule(&self, place: usize, repeated: Repeated, what: &'a What<'a>) -> Option<Why>
-        ensures { (catalogue : List NamedModel) (before all : List Stated) → DeclaresAll catalogue self.now all → IsNamed all what.now → IsOfVersion all what.now → repeated ≡ repeats before what.now → links_again before what.now ≡ is_at self.now.first_repeat place → result ≡ rule_of catalogue before all what.now }
+        ensures { (catalogue : List NamedModel) (before all : List Stated) → DeclaresAll catalogue self.now all → IsNamed all what.now → repeated ≡ repeats before what.now → links_again before what.now ≡ is_at self.now.first_repeat place → result ≡ rule_of catalogue before all what.now }
     {
         match what {
             What::Version | What::Title(_) => None,

@@ -18,32 +18,32 @@ first_later line lines object group other h = record { at = suc h.at; there = h.
     before zero earlier lt there same = false≢true (sym other ∙ eq-eqb line.0 object (ap (λ (l : ℕ × GroupAddr). l.0) (same_Some line earlier there) ∙ same))
     before (suc k) earlier lt there same = h.first k earlier (omega (arith, lt)) there same
 
+pair : (a b : ℕ) (x y : GroupAddr) → a ≡ b → x ≡ y → ◌≡◌ {A = ℕ × GroupAddr} (a, x) (b, y)
+pair a b x y p q = λ i. (p i, q i)
+
 first_found : (lines : List (ℕ × GroupAddr)) (object : ℕ) (group : GroupAddr) → first_group lines object ≡ Some group → IsFirstGroup lines object group
 first_found [] object group e = absurd (none-some group e)
-first_found (line ∷ lines) object group e = by (eqb line.0 object) refl e
+first_found (line ∷ lines) object group e = by (first_found lines object group) (eqb line.0 object) refl e
   where
-    by : (b : Bool) → eqb line.0 object ≡ b → cond b (Some line.1) (first_group lines object) ≡ Some group → IsFirstGroup (line ∷ lines) object group
-    by true is e = record {
+    by : (first_group lines object ≡ Some group → IsFirstGroup lines object group) → (b : Bool) → eqb line.0 object ≡ b → cond b (Some line.1) (first_group lines object) ≡ Some group → IsFirstGroup (line ∷ lines) object group
+    by later true is e = record {
       at = 0;
-      there = ap (λ (l : ℕ × GroupAddr). Some l) (pair (eqb-true line.0 object is) (same_Some line.1 group e));
+      there = ap (λ (l : ℕ × GroupAddr). Some l) (pair line.0 object line.1 group (eqb-true line.0 object is) (same_Some line.1 group e));
       first = λ k earlier lt. absurd (omega (arith, lt));
     }
-      where
-        pair : {a b : ℕ} {x y : GroupAddr} → a ≡ b → x ≡ y → ◌≡◌ {A = ℕ × GroupAddr} (a, x) (b, y)
-        pair p q = λ i. (p i, q i)
-    by false is e = first_later line lines object group is (first_found lines object group e)
+    by later false is e = first_later line lines object group is (later e)
 
 first_is : (lines : List (ℕ × GroupAddr)) (object : ℕ) (group : GroupAddr) → IsFirstGroup lines object group → first_group lines object ≡ Some group
 first_is [] object group h = absurd (none-some (object, group) h.there)
-first_is (line ∷ lines) object group h = by h.at h.there h.first
+first_is (line ∷ lines) object group h = by (first_is lines object group) h.at h.there h.first
   where
-    by : (at : ℕ) → slice_get (line ∷ lines) at ≡ Some (object, group) → ((k : ℕ) (earlier : ℕ × GroupAddr) → k < at → slice_get (line ∷ lines) k ≡ Some earlier → earlier.0 ≢ object)
+    by : (IsFirstGroup lines object group → first_group lines object ≡ Some group) → (at : ℕ) → slice_get (line ∷ lines) at ≡ Some (object, group) → ((k : ℕ) (earlier : ℕ × GroupAddr) → k < at → slice_get (line ∷ lines) k ≡ Some earlier → earlier.0 ≢ object)
         → cond (eqb line.0 object) (Some line.1) (first_group lines object) ≡ Some group
-    by zero there first =
+    by later zero there first =
         let is : line ≡ (object, group) = same_Some line (object, group) there in
         rw (eq-eqb line.0 object (ap (λ (l : ℕ × GroupAddr). l.0) is)) (ap (λ (l : ℕ × GroupAddr). Some l.1) is)
-    by (suc at) there first =
-        rw (ne_eqb line.0 object (first 0 line (omega arith) refl)) (first_is lines object group (record { at = at; there = there; first = λ k earlier lt is. first (suc k) earlier (omega (arith, lt)) is }))
+    by later (suc at) there first =
+        rw (ne_eqb line.0 object (first 0 line (omega arith) refl)) (later (record { at = at; there = there; first = λ k earlier lt is. first (suc k) earlier (omega (arith, lt)) is }))
 
 -- ---- the sending address
 

@@ -194,16 +194,16 @@ apart_to catalogue device ss (suc i) sound le =
     rw one (subst (λ (ls : List (ℕ × GroupAddr)). Differ ls) (sym more) (one_more device (take i ss) s.what (kept catalogue (take i ss) ss s.what (sound_at catalogue ss i nothing sound lt)).link (apart_to catalogue device ss i sound (omega arith))))
 
 -- each pair of places
+pairs_more : (x : ℕ × GroupAddr) (xs : List (ℕ × GroupAddr)) → AllByRecursion (Apart x) xs → AllPairs Apart xs → AllPairs Apart (x ∷ xs)
+pairs_more x xs first rest zero zero d below lt = absurd (omega (arith, below))
+pairs_more x xs first rest zero (suc j) d below lt = All-from_recursion (Apart x) xs first j d (omega (arith, lt))
+pairs_more x xs first rest (suc i) zero d below lt = absurd (omega (arith, below))
+pairs_more x xs first rest (suc i) (suc j) d below lt = rest i j d (omega (arith, below)) (omega (arith, lt))
+
 pairs_from : (xs : List (ℕ × GroupAddr)) → Differ xs → AllPairs Apart xs
 unfolding Differ
 pairs_from [] h = λ i j d below lt. absurd (omega (arith, below, lt))
-pairs_from (x ∷ xs) h = at
-  where
-    at : AllPairs Apart (x ∷ xs)
-    at zero zero d below lt = absurd (omega (arith, below))
-    at zero (suc j) d below lt = All-from_recursion (Apart x) xs h.0 j d (omega (arith, lt))
-    at (suc i) zero d below lt = absurd (omega (arith, below))
-    at (suc i) (suc j) d below lt = pairs_from xs h.1 i j d (omega (arith, below)) (omega (arith, lt))
+pairs_from (x ∷ xs) h = pairs_more x xs h.0 (pairs_from xs h.1)
 
 pub lines_apart : (catalogue : List NamedModel) (device : IndAddr) (ss : List Statement) → first_broken catalogue ss ≡ None → AllPairs Apart (link_lines device ss)
 lines_apart catalogue device ss sound =

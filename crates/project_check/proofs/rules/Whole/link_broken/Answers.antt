@@ -1,6 +1,6 @@
-use Rattle.std.proofs.Common.{◌≡◌, ◌&&◌, refl, sym, ap, ◌∙◌}
+use Rattle.std.proofs.Common.{◌≡◌, Bool, ◌&&◌, ◌||◌, refl, sym, ap, ◌∙◌}
 use Rattle.std.specs.Prelude.{is_none}
-use Rattle.knx_model.specs.Rules.{rule_of, asked_of, model_of, size_of, is_no_object}
+use Rattle.knx_model.specs.Rules.{rule_of, asked_of, model_of, size_of, is_no_object, repeats_group}
 use Rattle.project_check.specs.declared.known.KnownObject.{KnownObject}
 use Rattle.project_check.proofs.Asked.{missing}
 use Rattle.project_check.proofs.rules.Whole.link_broken.Goals as goal
@@ -18,7 +18,7 @@ returns c = λ catalogue before all h k repeats.
       k,
       c.lacks_group-lacks_group.ensures catalogue all h,
       lacks,
-      c.repeats_link-twice.ensures ∙ sym repeats,
+      c.links_twice-twice.ensures ∙ ap (λ (b : Bool). b || repeats_group c.args.groups.now) (sym repeats),
       c.size_differs-differs.ensures catalogue all h,
       size,
       c.has_device-declared.ensures catalogue all h.declared,

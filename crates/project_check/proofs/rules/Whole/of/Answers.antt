@@ -10,6 +10,6 @@ returns c = λ catalogue named.
       models = named;
       declared = declared;
       first_objects = c.in_ok-first_objects.ensures catalogue ss declared (c.as_slice.ensures.value ∙ lines);
-      first_repeat = c.requires;
-      linked = c.in_ok-linked.ensures (c.as_slice-2.ensures.value ∙ lines);
+      first_repeat = c.requires.first_repeat;
+      links = c.requires.links;
     }
