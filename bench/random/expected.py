@@ -7,7 +7,7 @@ from formats import CatalogueRefused, Project, Refused, group_text, individual, 
 from frames import datagram
 from plan import check_end, load_end
 
-USAGE = "usage: knx check, tables, sim, download, gateway, decode, find, assign or big, with their words\n"
+USAGE = "usage: knx check, tables, migrate, sim, download, gateway, decode, find, assign or big, with their words\n"
 SIGN = "(?: (?:nocon|closed|silent|tunnel))"
 OCTETS = "(?:-|(?:[0-9A-F]{2})+)"
 JOB = re.compile(rf"job (\d+) (load|check) (\S+) (done|open|failed{SIGN}{{3}}|refused \d+ got {OCTETS} expected {OCTETS})")
