@@ -1,3 +1,4 @@
+pub mod LineTests
 pub mod SendsKept
 pub mod Appending
 pub mod MigratedAgain
