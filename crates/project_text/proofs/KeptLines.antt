@@ -124,7 +124,7 @@ unfolding sends_below
 sends_silent f none n ss =
     filter_filter f (λ k. send_of ss (device_at k) (object_at k)) (range_with_len 0 n)
     ∙ filter_none (λ k. option_and_then f (send_of ss (device_at k) (object_at k))) (range_with_len 0 n) (λ k.
-        let d = device_at k in quiet_send f none d (object_at k) (first_group (link_lines d ss) (object_at k)) (sending_group (last_send d ss) (link_lines d ss) (object_at k)))
+    let d = device_at k in quiet_send f none d (object_at k) (first_group (link_lines d ss) (object_at k)) (sending_group (last_send d ss) (link_lines d ss) (object_at k)))
 
 -- what no `send` line says, none of the migrated project's says
 pub all_silent : {A : Type 0} (f : What → Option A) → ((device : IndAddr) (n : ℕ) (group : GroupAddr) → f (Send device n group) ≡ None) → (ss : List Statement) → filter_map f (sends ss) ≡ []

@@ -1,3 +1,4 @@
+pub mod MigratedSound
 pub mod LineTests
 pub mod SendsKept
 pub mod Appending

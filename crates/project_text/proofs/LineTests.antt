@@ -12,7 +12,7 @@ use Rattle.knx_model.specs.declared.project.Statement.{Statement}
 use Rattle.knx_model.specs.declared.project.What.{What}
 use Rattle.knx_model.specs.declared.project.What.TheVariants.{Version, Title, Group, Device, Object, Link, Send, Flags, Param}
 use Rattle.knx_model.specs.Meaning.{link_lines, last_send, first_group, sending_group}
-use Rattle.knx_model.specs.Rules.{some_line, count_lines, count_links, first_some, has_group, links_to, links_of_device, is_device_line, linked_in, first_linked}
+use Rattle.knx_model.specs.Rules.{some_line, count_lines, count_links, has_group, links_to, links_of_device, is_device_line, linked_in, first_linked}
 use Rattle.project_text.specs.Migrated.{link_to_one, one_by_one, kept, send_of, device_at, object_at, sends_below, sends, numbered_from, migrated}
 use Rattle.project_text.proofs.KeptLines.{filter_numbered, first_of, first_some-filter, is_send, all_silent}
 
@@ -230,6 +230,6 @@ unfolding migrated
 migrated_linked ss g =
     first_some-filter (linked_in g) (numbered_from 1 ((Version ∷ kept ss) ++ sends ss))
     ∙ ap first_of (filter_numbered (linked_in g) 1 ((Version ∷ kept ss) ++ sends ss) ∙ filter_map-append (linked_in g) (kept ss) (sends ss)
-      ∙ ap (λ (t : List Place). filter_map (linked_in g) (kept ss) ++ t) (all_silent (linked_in g) (λ d n x. refl) ss) ∙ append-nil (filter_map (linked_in g) (kept ss)))
+    ∙ ap (λ (t : List Place). filter_map (linked_in g) (kept ss) ++ t) (all_silent (linked_in g) (λ d n x. refl) ss) ∙ append-nil (filter_map (linked_in g) (kept ss)))
     ∙ kept_first g ss
     ∙ sym (first_some-filter (linked_in g) ss)

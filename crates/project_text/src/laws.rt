@@ -74,5 +74,5 @@ pub fn migrated_twice()
 
 /// A project that breaks no rule breaks none when it is migrated.
 pub fn migrated_breaks_no_rule()
-    ensures { (statements : Seq Statement) (catalogue : Seq NamedModel) → IsTrue (are_spellable statements) → first_broken catalogue statements ≡ None → first_broken catalogue (migrated statements) ≡ None }
+    ensures { (catalogue : Seq NamedModel) (statements : Seq Statement) → first_broken catalogue statements ≡ None → first_broken catalogue (migrated statements) ≡ None }
 {}

@@ -6,6 +6,7 @@ ghost use Rattle.std.specs.Option.{option_or};
 ghost use Rattle.std.specs.BTreeMap.{get, IsOrdered};
 ghost use Rattle.knx_model.specs.Numbers.{is_name};
 ghost use Rattle.knx_model.specs.Meaning.{links_said, send_line, first_group, meaning};
+ghost use Rattle.knx_model.specs.Rules.{first_broken};
 ghost use Rattle.knx_model.specs.Statements.{is_spellable, are_spelled, reading};
 ghost use Rattle.knx_model.specs.declared.address.IndAddr.{IndAddr as Device};
 ghost use Rattle.knx_model.specs.declared.catalogue.model.NamedModel.{NamedModel};
@@ -330,6 +331,8 @@ pub fn migrate<'a>(alloc: Global, project: &Project<'a>) -> Result<Project<'a>, 
     ensures value { IfOk result (λ made. made.statements ≡ migrated project.now.statements) }
     // It means for each device what the project means.
     ensures same { IfOk result (λ made. (catalogue : Seq NamedModel) (device : Device) → meaning (record { statements = made.statements; catalogue = catalogue }) device ≡ meaning (record { statements = project.now.statements; catalogue = catalogue }) device) }
+    // Where the project breaks no rule, it breaks none.
+    ensures sound { IfOk result (λ made. (catalogue : Seq NamedModel) → first_broken catalogue project.now.statements ≡ None → first_broken catalogue made.statements ≡ None) }
     // Migrated once more it stays, and its text reads as it.
     ensures twice { IfOk result (λ made. migrated made.statements ≡ made.statements) }
     ensures again { IfOk result (λ made. length (printed made.statements) ≤ 4194304 → reading (printed made.statements) ≡ Ok made.statements) }

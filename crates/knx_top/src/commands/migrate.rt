@@ -1,7 +1,8 @@
 //! `migrate P [catalogue=F]`: a project as one of version 2.
 
-ghost use Rattle.std.specs.Prelude.{◌≡◌, ◌≤◌, ◌+◌, ℕ, IfOk, List, length};
+ghost use Rattle.std.specs.Prelude.{◌≡◌, ◌≤◌, ◌+◌, ℕ, IfOk, List, None, length};
 ghost use Rattle.knx_model.specs.declared.catalogue.model.NamedModel.{NamedModel};
+ghost use Rattle.knx_model.specs.Rules.{first_broken};
 ghost use Rattle.call_parts.specs.Ending.{Is, TellsOf, end_told};
 ghost use Rattle.call_parts.specs.Project.{TellsOfProject, files_of_project, judged_project, project_words_of};
 ghost use Rattle.knx_top.specs.commands.Migrate.{IsMigratedText};
@@ -15,7 +16,7 @@ use std::thread::Threads;
 
 /// The text of the migrated project.
 fn migrated_text(alloc: Global, project: &Project<'_>) -> Result<Octets, NoMemory>
-    ensures { IfOk result (λ text. (catalogue : List NamedModel) → IsMigratedText (record { statements = project.now.statements; catalogue = catalogue }) text) }
+    ensures { IfOk result (λ text. (catalogue : List NamedModel) → first_broken catalogue project.now.statements ≡ None → IsMigratedText (record { statements = project.now.statements; catalogue = catalogue }) text) }
 {
     let made = migrate(alloc, project)?;
     let text = print_project(alloc, &made)?;
