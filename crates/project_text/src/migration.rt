@@ -231,13 +231,13 @@ fn put_kept<'a>(
         What::Flags {
             device,
             object,
-            flags,
+            flags: octet,
         } => put(
             out,
             What::Flags {
                 device: *device,
                 object: *object,
-                flags: *flags,
+                flags: *octet,
             },
         ),
         What::Param {
