@@ -47,7 +47,7 @@ spellable_is n [] spelled none = refl
 spellable_is n (what ∷ whats) spelled none =
     let h = and_parts (not (is_version what)) (list_all (λ w. not (is_version w)) whats) none in
     let one : version_of (numbered_from n (what ∷ whats)) ≡ One = ap (λ (b : Bool). cond b Two One) (not-true (is_version what) h.0) in
-    and_from _ _ (rw one (spelled_is One n (what ∷ whats) ∙ spelled)) (none_tells (n + 1) whats h.1)
+    and_from _ _ (ap (λ (v : TextVersion). are_spelled v (numbered_from n (what ∷ whats))) one ∙ spelled_is One n (what ∷ whats) ∙ spelled) (none_tells (n + 1) whats h.1)
 
 pub numbered_so : (n : ℕ) (whats : List What) → are_numbered n (numbered_from (n + 1) whats) ≡ true
 numbered_so n [] = refl

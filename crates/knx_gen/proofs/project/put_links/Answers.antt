@@ -9,4 +9,4 @@ unfolding link_lines
 loop-more-init c = sym (append-nil c.args.lines.now)
 
 pub loop-more-preserved : goal.loop-more-preserved
-loop-more-preserved c = links_more c.args.lines.now _ _ c.args.device c.args.object c.args.first c.loop-more.more c.loop-more.invariant c.in_ok-push.ensures.ok
+loop-more-preserved c = links_more c.args.lines.now _ _ c.args.device c.args.object c.args.first c.loop-more.more c.loop-more.invariant (rw c.one.ensures at c.in_ok-push.ensures.ok)
