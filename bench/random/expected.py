@@ -172,7 +172,7 @@ def asked(words, files):
         return f"devices {count} objects {8 * count} links {32 * count} done {count} new {count}\n"
     if command == "download" and rest:
         rest = rest[1:] if is_gateway(rest[0]) else []
-    count = {"check": 1, "tables": 1, "download": 1, "sim": 3}.get(command, len(rest) + 1)
+    count = {"check": 1, "tables": 1, "migrate": 1, "download": 1, "sim": 3}.get(command, len(rest) + 1)
     if len(rest) < count:
         raise Stop(2, USAGE)
     options = options_of(rest[count:], command in ("sim", "download"))
@@ -183,7 +183,7 @@ def asked(words, files):
     if command == "download":
         raise Stop(*DIALS) if all(device in new.model for _, device in options.jobs) else NO_DEVICE
     if command != "sim":
-        return new.counts() if command == "check" else new.tables()
+        return {"check": new.counts, "tables": new.tables, "migrate": new.migrated}[command]()
     return Run(new, judged("old", Project, texts[1], models), judged("script", script_of, texts[2]), options)
 
 
