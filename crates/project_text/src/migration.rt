@@ -1,6 +1,6 @@
 //! A project is written as one of version 2.
 
-ghost use Rattle.std.specs.Prelude.{◌≡◌, ℕ, ◌+◌, ◌*◌, ◌<◌, ◌≤◌, ◌==◌, ◌∷◌, [], List as Seq, length, map, Some, None, Ok, IfOk, OnOk, IsTrue, if◌then◌else◌};
+ghost use Rattle.std.specs.Prelude.{◌≡◌, ℕ, ◌+◌, ◌*◌, ◌<◌, ◌≤◌, ◌==◌, ◌∷◌, [], List as Seq, length, map, Some, None, Ok, IfOk, OnOk, OnErr, IsTrue, if◌then◌else◌};
 ghost use Rattle.std.specs.Ordering.{nat_cmp};
 ghost use Rattle.std.specs.Option.{option_or};
 ghost use Rattle.std.specs.BTreeMap.{get, IsOrdered};
@@ -135,7 +135,8 @@ fn lasts(alloc: Global, statements: &[Statement<'_>]) -> Result<BTreeMap<u32, Gr
 
 /// The number of the line behind so many. There is no memory for a project of more lines than a number can have.
 fn line_after(count: usize) -> Result<u32, NoMemory>
-    ensures { IfOk result (λ line. line ≡ count + 1) }
+    ensures next { IfOk result (λ line. line ≡ count + 1) }
+    ensures long { OnErr result (4294967295 ≤ count) }
 {
     if count >= u32::MAX as usize {
         return Err(NoMemory::from(AllocError));
