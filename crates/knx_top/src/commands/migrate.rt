@@ -33,7 +33,7 @@ fn told<R: Threads + Sync>(
     ensures { TellsOf IsMigratedText (judged_project (project_words_of names.entry) texts.now) (end_told result) }
 {
     let read = read_in(rt, alloc, names, texts)?;
-    let _checked = sound_in(rt, alloc, InputFile::New, &read.project, &read.models)?;
+    sound_in(rt, alloc, InputFile::New, &read.project, &read.models)?;
     let text = migrated_text(alloc, &read.project)?;
     Ok(text)
 }
