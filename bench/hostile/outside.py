@@ -62,7 +62,7 @@ def begun_gateway(tried, **how):
 
 @case("words that are no command, of any length and octets, are answered by the usage line")
 def words(tried):
-    usage = ("usage: knx check, tables, sim, download, gateway, decode, find, assign or big, with their words\n", 2)
+    usage = ("usage: knx check, tables, migrate, sim, download, gateway, decode, find, assign or big, with their words\n", 2)
     r = tried.random
     them = [[], [""], ["check"], ["check", NEW, NEW], [b"check", b"\xff"], [b"\xff\xfe"], ["sim"] * 50_000, ["decode", "06" * 513], ["decode", "0"],
             ["gateway", "127.0.0.1:0", OLD, NOTHING, "turns=1"], ["download", "127.0.0.1:99999", NEW], ["big", "1"],

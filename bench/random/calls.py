@@ -224,11 +224,11 @@ GATEWAYS = ("127.0.0.1", "127.0.0.1:3671", "0.0.0.0:1", "255.255.255.255:65535",
 
 
 def told(r):
-    """`check`, `tables` or `download`."""
+    """`check`, `tables`, `migrate` or `download`."""
     document, models = catalogue(r)
     document = document if r.random() < 0.5 else wrong_document(r, document)
     says = project(r, models, "1.1") + (project(r, models, "1.1") if r.random() < 0.05 else [])
-    command = r.choice((["check"], ["check"], ["tables"], ["tables"], ["download", r.choice(GATEWAYS)]))
+    command = r.choice((["check"], ["check"], ["tables"], ["tables"], ["migrate"], ["migrate"], ["download", r.choice(GATEWAYS)]))
     jobs = job_words(r, sorted({say.split()[1] for say in says if say.startswith("device")})) if len(command) > 1 else []
     words = jobs + ["catalogue=cat"] * (bool(models) or r.random() < 0.2) + [r.choice(ODD_WORDS)] * (r.random() < 0.03)
     r.shuffle(words)

@@ -7,7 +7,7 @@ from formats import CatalogueRefused, Project, Refused, group_text, individual, 
 from frames import datagram
 from plan import check_end, load_end
 
-USAGE = "usage: knx check, tables, sim, download, gateway, decode, find, assign or big, with their words\n"
+USAGE = "usage: knx check, tables, migrate, sim, download, gateway, decode, find, assign or big, with their words\n"
 SIGN = "(?: (?:nocon|closed|silent|tunnel))"
 OCTETS = "(?:-|(?:[0-9A-F]{2})+)"
 JOB = re.compile(rf"job (\d+) (load|check) (\S+) (done|open|failed{SIGN}{{3}}|refused \d+ got {OCTETS} expected {OCTETS})")
@@ -174,7 +174,7 @@ def asked(words, files):
         return f"devices {count} objects {8 * count} links {32 * count} done {count} new {count}\n"
     if command == "download" and rest:
         rest = rest[1:] if is_gateway(rest[0]) else []
-    count = {"check": 1, "tables": 1, "download": 1, "sim": 3}.get(command, len(rest) + 1)
+    count = {"check": 1, "tables": 1, "migrate": 1, "download": 1, "sim": 3}.get(command, len(rest) + 1)
     if len(rest) < count:
         raise Stop(2, USAGE)
     options = options_of(rest[count:], command in ("sim", "download"))
@@ -185,7 +185,7 @@ def asked(words, files):
     if command == "download":
         raise Stop(*DIALS) if all(device in new.model for _, device in options.jobs) else NO_DEVICE
     if command != "sim":
-        return new.counts() if command == "check" else new.tables()
+        return {"check": new.counts, "tables": new.tables, "migrate": new.migrated}[command]()
     return Run(new, judged("old", Project, texts[1], models), judged("script", script_of, texts[2]), options)
 
 

@@ -1,4 +1,4 @@
-"""docs/formats.md read once more: what `check`, `tables` and `decode` have to answer to given octets, and which refusal. run.py compares
+"""docs/formats.md read once more: what `check`, `tables`, `migrate` and `decode` have to answer to given octets, and which refusal. run.py compares
 the program with it. It shares nothing with the program but that page."""
 import re
 import tomllib
@@ -291,6 +291,28 @@ class Project:
     def tables(self):
         return "".join("".join([f"device {individual_text(device)}\n"] + [f"{word} {hexed(octets)}\n" for word, octets in
                        zip(("address", "association", "objects", "params"), self.image(device))]) for device in sorted(self.model))
+
+
+    def migrated(self):
+        """Its text in version 2."""
+        said = ["version 2"]
+        for _, word, values in self.statements:
+            if word not in ("version", "send"):
+                said += [statement_text(word, [*values[:2], to]) for to in values[2]] if word == "link" else [statement_text(word, values)]
+        for device in sorted({device for device, _, _ in self.linked}):
+            links = [(n, to) for n, groups in self.of("link", device) for to in groups]
+            sending = {**{n: to for n, to in reversed(links)}, **dict(self.of("send", device))}
+            said += [statement_text("send", [device, n, sending[n]]) for n in sorted({n for n, _ in links})]
+        return "".join(f"{line}\n" for line in said)
+
+
+def statement_text(word, values):
+    """A statement as it is printed."""
+    written = {"ga": [group_text], "link": [individual_text, str, group_text], "send": [individual_text, str, group_text]}.get(word, [individual_text] if word not in ("project", "ga") else [])
+    texts = [write(value) for write, value in zip(written + [str] * len(values), values)]
+    if word in ("object", "flags"):
+        texts[-1] = "".join(sorted(values[-1], key="CRWTUI".index)) or "-"
+    return " ".join([word, *texts])
 
 
 def octets_of(*numbers):

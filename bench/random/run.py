@@ -4,7 +4,7 @@
 
 Each call is made of seed and number alone: random projects, catalogues, scripts of all lines that `sim` takes, jobs and options, and random datagrams;
 some have something wrong. Of `download` and `gateway` there are only calls that stop before anything is dialled or bound. Where the page settles the answer (expected.py),
-status and text have to be just that: every refusal, and all that `check`, `tables` and `decode` tell. Of a run of `sim` the report has to be of its form, its status, jobs, devices and log have to agree, and each device has to
+status and text have to be just that: every refusal, and all that `check`, `tables`, `migrate` and `decode` tell. Of a run of `sim` the report has to be of its form, its status, jobs, devices and log have to agree, and each device has to
 be what it may be after what its jobs told: new after done, unchanged where nothing was loaded, and old, stopped or new else. A job has to end done where
 fewer than three lines of the script can end an attempt of it (losses, cuts, closings, a dropped channel). Each fourth run in which one thread does all is made twice, with another choice of `log` and a line of
 the script that nothing meets, and has to end alike.

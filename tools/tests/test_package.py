@@ -13,7 +13,7 @@ from unittest import mock
 from called import EXAMPLES, TOOLS, ToolTest
 import manual
 
-COMMANDS = ["check", "tables", "sim", "download", "gateway", "find", "assign", "big", "decode"]
+COMMANDS = ["check", "tables", "migrate", "sim", "download", "gateway", "find", "assign", "big", "decode"]
 
 # What bash's own completions give, in a few lines.
 OF_BASH = """

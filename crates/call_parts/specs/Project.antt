@@ -1,4 +1,4 @@
--- A command of one project, `check` or `tables`: its words, what it reads, its tests in their order, and what a call of it comes to. `download` reads its
+-- A command of one project, `check`, `tables` or `migrate`: its words, what it reads, its tests in their order, and what a call of it comes to. `download` reads its
 -- project so too.
 use Rattle.std.specs.Prelude.{ℕ, List, None, Ok, Option, Result, Some, option_to_list, ◌≡◌, ◌++◌, ◌∷◌, true, []}
 use Rattle.call_parts.specs.declared.ending.End.{End}
@@ -57,7 +57,7 @@ project_tests words texts =
 
 -- ---- a call, where the files told `files` and tell `files'`, and `Replied` says what was written
 
--- `check P` and `tables P`
+-- `check P`, `tables P` and `migrate P`
 pub record TellsOfProject (IsText : Installation → List ℕ → Type 0) (words : ProjectWords) (files files' : FilesNow) (Replied : End → Type 0) : Type 0 where
   -- what was read, in order, up to the first read that was refused
   pub texts : ProjectTexts

@@ -33,7 +33,7 @@ pub struct ProjectNames<'a> {
     pub catalogue: Option<&'a str>,
 }
 
-/// The texts of `check`, `tables` and `download`.
+/// The texts of `check`, `tables`, `migrate` and `download`.
 #[derive(Drop)]
 pub struct ProjectTexts {
     pub catalogue: Reading,
@@ -220,7 +220,7 @@ pub struct ReadProject<'a> {
     pub models: Catalogue,
 }
 
-/// The catalogue and the project of `check`, `tables` and `download` are read.
+/// The catalogue and the project of `check`, `tables`, `migrate` and `download` are read.
 pub fn read_in<'a, R: Threads + Sync>(
     rt: &R,
     alloc: Global,

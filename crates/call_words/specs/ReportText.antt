@@ -76,7 +76,7 @@ tables_lines device image = line (codes "device" ∷ device_text device ∷ []) 
 -- ---- a call that stops before its report
 
 abbrev pub usage_line : List ℕ
-usage_line = line (codes "usage: knx check, tables, sim, download, gateway, decode, find, assign or big, with their words" ∷ [])
+usage_line = line (codes "usage: knx check, tables, migrate, sim, download, gateway, decode, find, assign or big, with their words" ∷ [])
 
 abbrev pub file_word : InputFile → List ℕ
 file_word file.Catalogue = codes "catalogue"

@@ -6,7 +6,7 @@ ghost use Rattle.knx_model.specs.Outside.{one_more};
 ghost use Rattle.call_words.specs.Statuses.{status_number};
 ghost use Rattle.call_parts.specs.declared.ending.End.TheVariants.{Stops};
 ghost use Rattle.knx_top.specs.Call.{AtMostOneRose, RunsRightly, files_of, touches, touches_units};
-ghost use Rattle.knx_top.specs.Command.{asked, Assign as AskedAssign, AssignSim as AskedAssignSim, Big as AskedBig, Check as AskedCheck, Decode as AskedDecode, Download as AskedDownload, Find as AskedFind, Gateway as AskedGateway, Sim as AskedSim, Tables as AskedTables};
+ghost use Rattle.knx_top.specs.Command.{asked, Assign as AskedAssign, AssignSim as AskedAssignSim, Big as AskedBig, Check as AskedCheck, Decode as AskedDecode, Download as AskedDownload, Find as AskedFind, Gateway as AskedGateway, Migrate as AskedMigrate, Sim as AskedSim, Tables as AskedTables};
 ghost use Rattle.call_parts.specs.Ending.{Replies};
 ghost use Rattle.knx_top.specs.Ran.{FaultsOfLine};
 ghost use Rattle.knx_top.specs.Watched.{TellsWatcher, is_quiet};
@@ -20,6 +20,7 @@ ghost use Rattle.knx_top.specs.commands.Find.{FindWords, RunsFind};
 ghost use Rattle.knx_top.specs.commands.Gateway.{GatewayWords, RunsGateway};
 ghost use Rattle.call_parts.specs.Project.{ProjectWords, TellsOfProject};
 ghost use Rattle.knx_top.specs.commands.Sim.{RunsScript, SimWords};
+ghost use Rattle.knx_top.specs.commands.Migrate.{IsMigratedText};
 ghost use Rattle.knx_top.specs.commands.Tables.{IsTablesText};
 ghost use Rattle.knx_cli.specs.Exit.{status_of};
 
@@ -68,6 +69,7 @@ pub fn status_of<
     ensures usage { IfOk words.now (λ words. asked (map string_bytes words.items) ≡ None → Replies (K.now out.old) (K.now out.new) (status_of result) (Stops Usage)) }
     ensures check { IfOk words.now (λ words. (names : ProjectWords) → asked (map string_bytes words.items) ≡ Some (AskedCheck names) → TellsOfProject IsCountsText names (F.now files.old) (F.now files.new) (Replies (K.now out.old) (K.now out.new) (status_of result))) }
     ensures tables { IfOk words.now (λ words. (names : ProjectWords) → asked (map string_bytes words.items) ≡ Some (AskedTables names) → TellsOfProject IsTablesText names (F.now files.old) (F.now files.new) (Replies (K.now out.old) (K.now out.new) (status_of result))) }
+    ensures migrate { IfOk words.now (λ words. (names : ProjectWords) → asked (map string_bytes words.items) ≡ Some (AskedMigrate names) → TellsOfProject IsMigratedText names (F.now files.old) (F.now files.new) (Replies (K.now out.old) (K.now out.new) (status_of result))) }
     ensures decode { IfOk words.now (λ words. (word : List ℕ) → asked (map string_bytes words.items) ≡ Some (AskedDecode word) → TellsOfFrame word (Replies (K.now out.old) (K.now out.new) (status_of result))) }
     ensures sim { IfOk words.now (λ words. (names : SimWords) → asked (map string_bytes words.items) ≡ Some (AskedSim names) → RunsScript names (F.now files.old) (F.now files.new) sim.old (record { line = sim.new; report = last.new }) (Replies (K.now out.old) (K.now out.new) (status_of result))) }
     ensures download { IfOk words.now (λ words. (names : DownloadWords) → asked (map string_bytes words.items) ≡ Some (AskedDownload names) → RunsDialled names (F.now files.old) (F.now files.new) (D.now dial.old) (D.now dial.new) last.new (Replies (K.now out.old) (K.now out.new) (status_of result))) }

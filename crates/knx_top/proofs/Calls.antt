@@ -3,7 +3,7 @@ use Rattle.std.proofs.Common.{◌≡◌, true, false, List, Option, Some, None, 
 use Rattle.std.specs.Prelude.{IfSome}
 use Rattle.knx_top.specs.Call.{AtMostOneRose, AtPort, Does, Elsewhere, HasRun, HasRunMade, NoRun, Outside, RunsRightly, left_in, touches}
 use Rattle.bus_sim.specs.Loaded.{BusNow}
-use Rattle.knx_top.specs.Command.{Assign, AssignSim, Big, Check, Command, Decode, Find, Gateway, Sim, Tables, asked, Download}
+use Rattle.knx_top.specs.Command.{Assign, AssignSim, Big, Check, Command, Decode, Find, Gateway, Migrate, Sim, Tables, asked, Download}
 use Rattle.call_parts.specs.declared.ending.End.{End}
 use Rattle.knx_top.specs.Headline.{KeepsHeadline}
 use Rattle.knx_top.specs.Ran.{FaultsOfLine, Ran, Left, Commission}
@@ -31,6 +31,7 @@ use Rattle.call_parts.specs.declared.ending.End.TheVariants as ends
 use Rattle.knx_top.specs.commands.Assign.{AssignSimWords, AssignWords, RunsAssign, RunsAssignSim}
 use Rattle.knx_top.specs.commands.Big.{BigWords, RunsMade, commission_made, made, summed}
 use Rattle.knx_top.specs.commands.Check.{IsCountsText}
+use Rattle.knx_top.specs.commands.Migrate.{IsMigratedText}
 use Rattle.knx_top.specs.commands.Tables.{IsTablesText}
 use Rattle.knx_top.specs.commands.Sim.{RunsScript, SimWords, commission_told, sim_tests, Runs, SimIsRead, failed_of_sim}
 use Rattle.knx_top.specs.commands.Decode.{TellsOfFrame}
@@ -44,6 +45,7 @@ use Rattle.knx_top.specs.commands.Gateway.{GatewayWords, RunsGateway, failed_of_
 pub written : (command : Command) (before after : Outside) (end : End) (Replied : End → Type 0) → Does (Some command) before after (Is end) → Replied end ⊎ Replied (wanting end) → Does (Some command) before after Replied
 written (Check words) before after end Replied does replied = (project_written IsCountsText words before.files after.files end Replied does.0 replied, does.1)
 written (Tables words) before after end Replied does replied = (project_written IsTablesText words before.files after.files end Replied does.0 replied, does.1)
+written (Migrate words) before after end Replied does replied = (project_written IsMigratedText words before.files after.files end Replied does.0 replied, does.1)
 written (Sim words) before after end Replied does replied = (script_written words before.files after.files before.line (left_in after) end Replied does.0 replied, does.1)
 written (Decode word) before after end Replied does replied = (frame_written word end Replied does.0 replied, does.1, does.2)
 written (Download words) before after end Replied does replied = (dialled_written words before.files after.files before.dialer after.dialer after.report end Replied does.0 replied, does.1)
@@ -64,6 +66,9 @@ check_of command before after Replied words does e = (subst (λ (o : Option Comm
 pub tables_of : (command : Option Command) (before after : Outside) (Replied : End → Type 0) (words : ProjectWords) → Does command before after Replied → command ≡ Some (Tables words) → TellsOfProject IsTablesText words before.files after.files Replied
 tables_of command before after Replied words does e = (subst (λ (o : Option Command). Does o before after Replied) e does).0
 
+pub migrate_of : (command : Option Command) (before after : Outside) (Replied : End → Type 0) (words : ProjectWords) → Does command before after Replied → command ≡ Some (Migrate words) → TellsOfProject IsMigratedText words before.files after.files Replied
+migrate_of command before after Replied words does e = (subst (λ (o : Option Command). Does o before after Replied) e does).0
+
 pub decode_of : (command : Option Command) (before after : Outside) (Replied : End → Type 0) (word : List ℕ) → Does command before after Replied → command ≡ Some (Decode word) → TellsOfFrame word Replied
 decode_of command before after Replied word does e = (subst (λ (o : Option Command). Does o before after Replied) e does).0
 
@@ -75,6 +80,7 @@ pub link_of : (command : Option Command) (before after : Outside) (Replied : End
 link_of None before after Replied does touched = absurd (let e : false ≡ true = touched in cc)
 link_of (Some (Check words)) before after Replied does touched = absurd (let e : false ≡ true = touched in cc)
 link_of (Some (Tables words)) before after Replied does touched = absurd (let e : false ≡ true = touched in cc)
+link_of (Some (Migrate words)) before after Replied does touched = absurd (let e : false ≡ true = touched in cc)
 link_of (Some (Sim words)) before after Replied does touched = does.1
 link_of (Some (Decode word)) before after Replied does touched = absurd (let e : false ≡ true = touched in cc)
 link_of (Some (Download words)) before after Replied does touched = absurd (let e : false ≡ true = touched in cc)
@@ -110,6 +116,7 @@ pub line_of : (command : Option Command) (before after : Outside) (Replied : End
 line_of None before after Replied does untouched = does.2.line
 line_of (Some (Check words)) before after Replied does untouched = does.1.line
 line_of (Some (Tables words)) before after Replied does untouched = does.1.line
+line_of (Some (Migrate words)) before after Replied does untouched = does.1.line
 line_of (Some (Sim words)) before after Replied does untouched = absurd (let e : true ≡ false = untouched in cc)
 line_of (Some (Decode word)) before after Replied does untouched = does.2.line
 line_of (Some (Download words)) before after Replied does untouched = does.1
@@ -123,6 +130,7 @@ pub no_run_of : (command : Option Command) (before after : Outside) (Replied : E
 no_run_of None before after Replied does untouched = does.2.report
 no_run_of (Some (Check words)) before after Replied does untouched = does.1.report
 no_run_of (Some (Tables words)) before after Replied does untouched = does.1.report
+no_run_of (Some (Migrate words)) before after Replied does untouched = does.1.report
 no_run_of (Some (Sim words)) before after Replied does untouched = absurd (let e : true ≡ false = untouched in cc)
 no_run_of (Some (Decode word)) before after Replied does untouched = does.2.report
 no_run_of (Some (Download words)) before after Replied does untouched = absurd (let e : true ≡ false = untouched in cc)
@@ -136,6 +144,7 @@ pub faults_in : (command : Option Command) (before after : Outside) (Replied : E
 faults_in None before after Replied does = (None, does.1)
 faults_in (Some (Check words)) before after Replied does = (failed_of_project words does.0.texts, does.0.counts)
 faults_in (Some (Tables words)) before after Replied does = (failed_of_project words does.0.texts, does.0.counts)
+faults_in (Some (Migrate words)) before after Replied does = (failed_of_project words does.0.texts, does.0.counts)
 faults_in (Some (Sim words)) before after Replied does = (failed_of_sim words does.0.texts, does.0.counts)
 faults_in (Some (Decode word)) before after Replied does = (None, does.1)
 faults_in (Some (Download words)) before after Replied does = (failed_of_project (project_named words) does.0.texts, does.0.counts)
@@ -191,6 +200,7 @@ ran_in : (ending : Status) (Told : Report → Type 0) → OfEach ending Told
 ran_in ending Told get None words before after Replied tells e does = NoRun does.2
 ran_in ending Told get (Some (Check names)) words before after Replied tells e does = NoRun does.1
 ran_in ending Told get (Some (Tables names)) words before after Replied tells e does = NoRun does.1
+ran_in ending Told get (Some (Migrate names)) words before after Replied tells e does = NoRun does.1
 ran_in ending Told get (Some (Sim names)) words before after Replied tells e does = tested ending Told get _ words names before.files after.files before.line (left_in after) Replied tells does.0 refl e
 ran_in ending Told get (Some (Decode word)) words before after Replied tells e does = NoRun does.2
 ran_in ending Told get (Some (Download names)) words before after Replied tells e does = Elsewhere names e does.1

@@ -3,7 +3,7 @@ use Rattle.std.proofs.Common.{ℕ, ◌≡◌, ◌↔◌, Bool, true, false, code
 use Rattle.std.specs.Prelude.{bytes_eq, if◌then◌else◌, option_and_then}
 use Rattle.std.specs.Option.{option_map}
 use Rattle.std.proofs.lemmas.Slice.Eq.{bytes_eq-Decides}
-use Rattle.knx_top.specs.Command.{Command, Check, Tables, Sim, Decode, SpellsCommand, SpellsCheck, SpellsTables, SpellsSim, SpellsDecode, SpellsDownload, SpellsGateway, SpellsSearch, SpellsDescription, SpellsAssign, SpellsAssignSim, SpellsBig, Assign, AssignSim, Big, Download, Find, Gateway, asked, assign_asked, other_asked}
+use Rattle.knx_top.specs.Command.{Command, Check, Tables, Migrate, Sim, Decode, SpellsCommand, SpellsCheck, SpellsTables, SpellsMigrate, SpellsSim, SpellsDecode, SpellsDownload, SpellsGateway, SpellsSearch, SpellsDescription, SpellsAssign, SpellsAssignSim, SpellsBig, Assign, AssignSim, Big, Download, Find, Gateway, asked, assign_asked, other_asked}
 use Rattle.line_model.specs.Dialled.{Address}
 use Rattle.call_parts.specs.Fronts.{Spells, SpellsAll}
 use Rattle.call_parts.specs.Host.{address_value}
@@ -47,6 +47,7 @@ turns_from word turns s = reads_spelled turns_rows word turns turns_apart s
 asked_from : (words : List (List ℕ)) (command : Command) → SpellsCommand words command → asked words ≡ Some command
 asked_from words command (SpellsCheck project others options o) = rw (project_from others options o) refl
 asked_from words command (SpellsTables project others options o) = rw (project_from others options o) refl
+asked_from words command (SpellsMigrate project others options o) = rw (project_from others options o) refl
 asked_from words command (SpellsSim new old script others options o) = rw (run_from others options o) refl
 asked_from words command (SpellsDecode word) = refl
 asked_from words command (SpellsDownload address new others at options is o) = rw (is, run_from others options o) refl
@@ -75,6 +76,12 @@ tables_to None project others command is e = absurd cc
 tables_to (Some options) project others command is e =
     subst (λ (c : Command). SpellsCommand (codes "tables" ∷ project ∷ others) c) (some_command (Tables (record { project = project; catalogue = options.catalogue })) command e) (SpellsTables project others options (all_to project_rows others no_options options is))
 
+migrate_to : (o : Option SimOptions) (project : List ℕ) (others : List (List ℕ)) (command : Command) → project_options others ≡ o
+    → option_map Migrate (option_map (λ (options : SimOptions). let w : ProjectWords = record { project = project; catalogue = options.catalogue } in w) o) ≡ Some command → SpellsCommand (codes "migrate" ∷ project ∷ others) command
+migrate_to None project others command is e = absurd cc
+migrate_to (Some options) project others command is e =
+    subst (λ (c : Command). SpellsCommand (codes "migrate" ∷ project ∷ others) c) (some_command (Migrate (record { project = project; catalogue = options.catalogue })) command e) (SpellsMigrate project others options (all_to project_rows others no_options options is))
+
 sim_to : (o : Option SimOptions) (new old script : List ℕ) (others : List (List ℕ)) (command : Command) → sim_options others ≡ o
     → option_map Sim (option_map (λ (options : SimOptions). let w : SimWords = record { new = new; old = old; script = script; options = options } in w) o) ≡ Some command → SpellsCommand (codes "sim" ∷ new ∷ old ∷ script ∷ others) command
 sim_to None new old script others command is e = absurd cc
@@ -88,6 +95,10 @@ check_words (project ∷ others) command e = check_to (project_options others) p
 tables_words : (words : List (List ℕ)) (command : Command) → option_map Tables (project_words words) ≡ Some command → SpellsCommand (codes "tables" ∷ words) command
 tables_words [] command e = absurd cc
 tables_words (project ∷ others) command e = tables_to (project_options others) project others command refl e
+
+migrate_words : (words : List (List ℕ)) (command : Command) → option_map Migrate (project_words words) ≡ Some command → SpellsCommand (codes "migrate" ∷ words) command
+migrate_words [] command e = absurd cc
+migrate_words (project ∷ others) command e = migrate_to (project_options others) project others command refl e
 
 sim_of_words : (words : List (List ℕ)) (command : Command) → option_map Sim (sim_words words) ≡ Some command → SpellsCommand (codes "sim" ∷ words) command
 sim_of_words [] command e = absurd cc
@@ -211,18 +222,19 @@ big_of_words (number ∷ start ∷ more ∷ others) command e = absurd cc
 headed : (first text : List ℕ) (words : List (List ℕ)) (command : Command) → bytes_eq first text ≡ true → SpellsCommand (text ∷ words) command → SpellsCommand (first ∷ words) command
 headed first text words command is s = subst (λ (w : List ℕ). SpellsCommand (w ∷ words) command) (sym ((bytes_eq-Decides first text).0 is)) s
 
-asked_to : (a b c d f g i h : Bool) (first : List ℕ) (words : List (List ℕ)) (command : Command) → bytes_eq first (codes "check") ≡ a → bytes_eq first (codes "tables") ≡ b → bytes_eq first (codes "sim") ≡ c → bytes_eq first (codes "decode") ≡ d → bytes_eq first (codes "download") ≡ f → bytes_eq first (codes "gateway") ≡ g → bytes_eq first (codes "find") ≡ i → bytes_eq first (codes "big") ≡ h
-    → (if a then option_map Check (project_words words) else (if b then option_map Tables (project_words words) else (if c then option_map Sim (sim_words words) else (if d then option_map Decode (decode_word words) else (if f then option_map Download (download_words words) else (if g then option_map Gateway (gateway_words words) else (if i then option_map Find (find_words words) else (if h then option_map Big (big_words words) else None)))))))) ≡ Some command
+asked_to : (a b m c d f g i h : Bool) (first : List ℕ) (words : List (List ℕ)) (command : Command) → bytes_eq first (codes "check") ≡ a → bytes_eq first (codes "tables") ≡ b → bytes_eq first (codes "migrate") ≡ m → bytes_eq first (codes "sim") ≡ c → bytes_eq first (codes "decode") ≡ d → bytes_eq first (codes "download") ≡ f → bytes_eq first (codes "gateway") ≡ g → bytes_eq first (codes "find") ≡ i → bytes_eq first (codes "big") ≡ h
+    → (if a then option_map Check (project_words words) else (if b then option_map Tables (project_words words) else (if m then option_map Migrate (project_words words) else (if c then option_map Sim (sim_words words) else (if d then option_map Decode (decode_word words) else (if f then option_map Download (download_words words) else (if g then option_map Gateway (gateway_words words) else (if i then option_map Find (find_words words) else (if h then option_map Big (big_words words) else None))))))))) ≡ Some command
     → SpellsCommand (first ∷ words) command
-asked_to true b c d f g i h first words command is _ _ _ _ _ _ _ e = headed first (codes "check") words command is (check_words words command e)
-asked_to false true c d f g i h first words command _ is _ _ _ _ _ _ e = headed first (codes "tables") words command is (tables_words words command e)
-asked_to false false true d f g i h first words command _ _ is _ _ _ _ _ e = headed first (codes "sim") words command is (sim_of_words words command e)
-asked_to false false false true f g i h first words command _ _ _ is _ _ _ _ e = headed first (codes "decode") words command is (decode_words words command e)
-asked_to false false false false true g i h first words command _ _ _ _ is _ _ _ e = headed first (codes "download") words command is (download_of_words words command e)
-asked_to false false false false false true i h first words command _ _ _ _ _ is _ _ e = headed first (codes "gateway") words command is (gateway_of_words words command e)
-asked_to false false false false false false true h first words command _ _ _ _ _ _ is _ e = headed first (codes "find") words command is (find_of_words words command e)
-asked_to false false false false false false false true first words command _ _ _ _ _ _ _ is e = headed first (codes "big") words command is (big_of_words words command e)
-asked_to false false false false false false false false first words command _ _ _ _ _ _ _ _ e = absurd cc
+asked_to true b m c d f g i h first words command is _ _ _ _ _ _ _ _ e = headed first (codes "check") words command is (check_words words command e)
+asked_to false true m c d f g i h first words command _ is _ _ _ _ _ _ _ e = headed first (codes "tables") words command is (tables_words words command e)
+asked_to false false true c d f g i h first words command _ _ is _ _ _ _ _ _ e = headed first (codes "migrate") words command is (migrate_words words command e)
+asked_to false false false true d f g i h first words command _ _ _ is _ _ _ _ _ e = headed first (codes "sim") words command is (sim_of_words words command e)
+asked_to false false false false true f g i h first words command _ _ _ _ is _ _ _ _ e = headed first (codes "decode") words command is (decode_words words command e)
+asked_to false false false false false true g i h first words command _ _ _ _ _ is _ _ _ e = headed first (codes "download") words command is (download_of_words words command e)
+asked_to false false false false false false true i h first words command _ _ _ _ _ _ is _ _ e = headed first (codes "gateway") words command is (gateway_of_words words command e)
+asked_to false false false false false false false true h first words command _ _ _ _ _ _ _ is _ e = headed first (codes "find") words command is (find_of_words words command e)
+asked_to false false false false false false false false true first words command _ _ _ _ _ _ _ _ is e = headed first (codes "big") words command is (big_of_words words command e)
+asked_to false false false false false false false false false first words command _ _ _ _ _ _ _ _ _ e = absurd cc
 
 spelled_to : (words : List (List ℕ)) (command : Command) → asked words ≡ Some command → SpellsCommand words command
 spelled_to [] command e = absurd cc
@@ -230,7 +242,7 @@ spelled_to (first ∷ words) command e = assign_or_other (bytes_eq first (codes 
   where
     other_to : (first : List ℕ) (words : List (List ℕ)) (command : Command) → other_asked first words ≡ Some command → SpellsCommand (first ∷ words) command
     other_to first words command e =
-        asked_to (bytes_eq first (codes "check")) (bytes_eq first (codes "tables")) (bytes_eq first (codes "sim")) (bytes_eq first (codes "decode")) (bytes_eq first (codes "download")) (bytes_eq first (codes "gateway")) (bytes_eq first (codes "find")) (bytes_eq first (codes "big")) first words command refl refl refl refl refl refl refl refl e
+        asked_to (bytes_eq first (codes "check")) (bytes_eq first (codes "tables")) (bytes_eq first (codes "migrate")) (bytes_eq first (codes "sim")) (bytes_eq first (codes "decode")) (bytes_eq first (codes "download")) (bytes_eq first (codes "gateway")) (bytes_eq first (codes "find")) (bytes_eq first (codes "big")) first words command refl refl refl refl refl refl refl refl refl e
 
     assign_or_other : (is : Bool) (first : List ℕ) (words : List (List ℕ)) (command : Command) → bytes_eq first (codes "assign") ≡ is → (if is then assign_asked words else other_asked first words) ≡ Some command → SpellsCommand (first ∷ words) command
     assign_or_other true first words command is e = headed first (codes "assign") words command is (assign_of_words words command e)

@@ -5,4 +5,5 @@ pub mod Decodes
 pub mod Downloads
 pub mod Finds
 pub mod Gateways
+pub mod Migrates
 pub mod Sims

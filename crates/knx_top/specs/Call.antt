@@ -2,7 +2,7 @@
 use Rattle.std.specs.Prelude.{ℕ, Bool, true, false, List, [], ◌∷◌, None, Option, Some, ◌≡◌}
 use Rattle.bus_sim.specs.Loaded.{BusNow}
 use Rattle.address_sim.specs.Driven.{BusNow as UnitsNow}
-use Rattle.knx_top.specs.Command.{Assign, AssignSim, Big, Check, Command, Decode, Download, Find, Gateway, Sim, Tables, asked}
+use Rattle.knx_top.specs.Command.{Assign, AssignSim, Big, Check, Command, Decode, Download, Find, Gateway, Migrate, Sim, Tables, asked}
 use Rattle.knx_top.specs.Headline.{KeepsHeadline}
 use Rattle.knx_top.specs.Ran.{FaultsOfLine, Left}
 use Rattle.line_model.specs.Dialled.{DialerNow}
@@ -14,6 +14,7 @@ use Rattle.call_parts.specs.declared.ending.End.{End}
 use Rattle.knx_model.specs.Outside.{FilesNow}
 use Rattle.knx_top.specs.commands.Gateway.{GatewayWords, RunsGateway, files_of_gateway}
 use Rattle.knx_top.specs.commands.Check.{IsCountsText}
+use Rattle.knx_top.specs.commands.Migrate.{IsMigratedText}
 use Rattle.knx_top.specs.commands.Tables.{IsTablesText}
 use Rattle.call_parts.specs.Input.{OnlyRose, first_some}
 use Rattle.line_model.specs.declared.log.Report.{Report}
@@ -37,6 +38,7 @@ abbrev pub touches : Option Command → Touches
 touches None = record { line = false; network = false; run = false }
 touches (Some (Check words)) = record { line = false; network = false; run = false }
 touches (Some (Tables words)) = record { line = false; network = false; run = false }
+touches (Some (Migrate words)) = record { line = false; network = false; run = false }
 touches (Some (Sim words)) = record { line = true; network = false; run = true }
 touches (Some (Decode word)) = record { line = false; network = false; run = false }
 touches (Some (Download words)) = record { line = false; network = true; run = true }
@@ -56,6 +58,7 @@ abbrev pub files_of : Option Command → List (List ℕ)
 files_of None = []
 files_of (Some (Check words)) = files_of_project words
 files_of (Some (Tables words)) = files_of_project words
+files_of (Some (Migrate words)) = files_of_project words
 files_of (Some (Sim words)) = files_of_sim words
 files_of (Some (Decode word)) = []
 files_of (Some (Download words)) = files_of_download words
@@ -93,6 +96,7 @@ abbrev pub Does : Option Command → Outside → Outside → (End → Type 0) �
 Does None before after Replied = Replied (ends.Stops stop.Usage) × OnlyRose None before.files.faults after.files.faults × HasNoRun before.line (left_in after)
 Does (Some (Check words)) before after Replied = TellsOfProject IsCountsText words before.files after.files Replied × HasNoRun before.line (left_in after)
 Does (Some (Tables words)) before after Replied = TellsOfProject IsTablesText words before.files after.files Replied × HasNoRun before.line (left_in after)
+Does (Some (Migrate words)) before after Replied = TellsOfProject IsMigratedText words before.files after.files Replied × HasNoRun before.line (left_in after)
 Does (Some (Sim words)) before after Replied = RunsScript words before.files after.files before.line (left_in after) Replied × FaultsOfLine after.report after.line
 Does (Some (Decode word)) before after Replied = TellsOfFrame word Replied × OnlyRose None before.files.faults after.files.faults × HasNoRun before.line (left_in after)
 Does (Some (Download words)) before after Replied = RunsDialled words before.files after.files before.dialer after.dialer after.report Replied × (after.line ≡ before.line)

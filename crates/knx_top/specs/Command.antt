@@ -22,6 +22,7 @@ use Rattle.knx_top.specs.declared.commands.Command.{Command as Parsed}
 pub data Command : Type 0 where
   Check : ProjectWords → Command
   Tables : ProjectWords → Command
+  Migrate : ProjectWords → Command
   Sim : SimWords → Command
   Decode : List ℕ → Command
   Download : DownloadWords → Command
@@ -33,13 +34,15 @@ pub data Command : Type 0 where
 
 -- ---- the words that spell a command
 
--- `check P`, `tables P`, each with its option behind, `sim NEW OLD SCRIPT` with options and jobs, `decode HEX`, `download ADDR NEW` with options and jobs,
+-- `check P`, `tables P`, `migrate P`, each with its option behind, `sim NEW OLD SCRIPT` with options and jobs, `decode HEX`, `download ADDR NEW` with options and jobs,
 -- `gateway ADDR OLD SCRIPT turns=N` with its option behind, `find ADDR`, `find ADDR describe`, `assign ADDR IA`, `assign sim UNITS IA`, and `big N START`
 pub data SpellsCommand : List (List ℕ) → Command → Type 0 where
   SpellsCheck : (project : List ℕ) (others : List (List ℕ)) (options : SimOptions) → SpellsAll project_rows others no_options options
       → SpellsCommand (codes "check" ∷ project ∷ others) (Check (record { project = project; catalogue = options.catalogue }))
   SpellsTables : (project : List ℕ) (others : List (List ℕ)) (options : SimOptions) → SpellsAll project_rows others no_options options
       → SpellsCommand (codes "tables" ∷ project ∷ others) (Tables (record { project = project; catalogue = options.catalogue }))
+  SpellsMigrate : (project : List ℕ) (others : List (List ℕ)) (options : SimOptions) → SpellsAll project_rows others no_options options
+      → SpellsCommand (codes "migrate" ∷ project ∷ others) (Migrate (record { project = project; catalogue = options.catalogue }))
   SpellsSim : (new old script : List ℕ) (others : List (List ℕ)) (options : SimOptions) → SpellsAll run_rows others no_options options
       → SpellsCommand (codes "sim" ∷ new ∷ old ∷ script ∷ others) (Sim (record { new = new; old = old; script = script; options = options }))
   SpellsDecode : (word : List ℕ) → SpellsCommand (codes "decode" ∷ word ∷ []) (Decode word)
@@ -67,13 +70,14 @@ abbrev pub other_asked : List ℕ → List (List ℕ) → Option Command
 other_asked command words =
     if bytes_eq command (codes "check") then option_map Check (project_words words)
     else (if bytes_eq command (codes "tables") then option_map Tables (project_words words)
+    else (if bytes_eq command (codes "migrate") then option_map Migrate (project_words words)
     else (if bytes_eq command (codes "sim") then option_map Sim (sim_words words)
     else (if bytes_eq command (codes "decode") then option_map Decode (decode_word words)
     else (if bytes_eq command (codes "download") then option_map Download (download_words words)
     else (if bytes_eq command (codes "gateway") then option_map Gateway (gateway_words words)
     else (if bytes_eq command (codes "find") then option_map Find (find_words words)
     else (if bytes_eq command (codes "big") then option_map Big (big_words words)
-    else None)))))))
+    else None))))))))
 
 -- the command of the words; other words are no command
 abbrev pub asked : List (List ℕ) → Option Command
@@ -85,6 +89,7 @@ asked (command ∷ words) = if bytes_eq command (codes "assign") then assign_ask
 abbrev pub command_of : Parsed → Command
 command_of (parsed.Check names) = Check (project_words_of names)
 command_of (parsed.Tables names) = Tables (project_words_of names)
+command_of (parsed.Migrate names) = Migrate (project_words_of names)
 command_of (parsed.Sim names) = Sim (sim_words_of names)
 command_of (parsed.Decode word) = Decode word.now
 command_of (parsed.Download names) = Download (download_words_of names)

@@ -1,4 +1,4 @@
--- What valid input comes to: where the files of `check` or `tables` are told, or the word of `decode` is one of octets, and no count rose, the
+-- What valid input comes to: where the files of `check`, `tables` or `migrate` are told, or the word of `decode` is one of octets, and no count rose, the
 -- whole text is written with status 0, or there was no memory. So it is with `sim` and `big`: a run is begun, and the whole text of its report, or of its sums,
 -- is written with its status. And where nothing disturbs a run of `sim`, all is served, and the status is 0 or 1. Nothing disturbs a run of `big`: each device
 -- that is made is loaded, and runs what the project says. With `download` and `gateway` what the words name is dialled or bound, once; where that fails, that is

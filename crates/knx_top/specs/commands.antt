@@ -6,5 +6,6 @@ pub mod Decode
 pub mod Download
 pub mod Find
 pub mod Gateway
+pub mod Migrate
 pub mod Sim
 pub mod Tables

@@ -5,7 +5,7 @@ ghost use Rattle.call_words.specs.declared.stop.Stop.TheVariants.{Usage};
 ghost use Rattle.knx_model.specs.Outside.{one_more};
 ghost use Rattle.call_parts.specs.declared.ending.End.TheVariants.{Stops};
 ghost use Rattle.knx_top.specs.Call.{AtMostOneRose, Does, RunsRightly, files_of, touches, touches_units};
-ghost use Rattle.knx_top.specs.Command.{Assign as AskedAssign, AssignSim as AskedAssignSim, Big as AskedBig, Check as AskedCheck, Decode as AskedDecode, Download as AskedDownload, Find as AskedFind, Gateway as AskedGateway, Sim as AskedSim, Tables as AskedTables, asked, command_of};
+ghost use Rattle.knx_top.specs.Command.{Assign as AskedAssign, AssignSim as AskedAssignSim, Big as AskedBig, Check as AskedCheck, Decode as AskedDecode, Download as AskedDownload, Find as AskedFind, Gateway as AskedGateway, Migrate as AskedMigrate, Sim as AskedSim, Tables as AskedTables, asked, command_of};
 ghost use Rattle.call_parts.specs.Ending.{Is, Replies, report_in};
 ghost use Rattle.knx_top.specs.Ran.{FaultsOfLine};
 ghost use Rattle.knx_top.specs.Watched.{TellsWatcher, is_quiet};
@@ -19,10 +19,11 @@ ghost use Rattle.knx_top.specs.commands.Find.{FindWords, RunsFind};
 ghost use Rattle.knx_top.specs.commands.Gateway.{GatewayWords, RunsGateway};
 ghost use Rattle.call_parts.specs.Project.{ProjectWords, TellsOfProject};
 ghost use Rattle.knx_top.specs.commands.Sim.{RunsScript, SimWords};
+ghost use Rattle.knx_top.specs.commands.Migrate.{IsMigratedText};
 ghost use Rattle.knx_top.specs.commands.Tables.{IsTablesText};
 
 use crate::commands::{
-    Command, asked, assign, big, check, decode, download, find, gateway, sim, tables,
+    Command, asked, assign, big, check, decode, download, find, gateway, migrate, sim, tables,
 };
 use address_sim::AddressBus;
 use bus_sim::SimBus;
@@ -62,6 +63,7 @@ fn run<R: Threads + Wait + Sync, F: Files, D: Dialer, G: Gate + Sync, W: Watcher
     match command {
         Command::Check(names) => check::call(rt, alloc, names, files),
         Command::Tables(names) => tables::call(rt, alloc, names, files),
+        Command::Migrate(names) => migrate::call(rt, alloc, names, files),
         Command::Sim(names) => sim::call(rt, alloc, &names, files, sim, gate, watch),
         Command::Decode(word) => decode::call(alloc, word),
         Command::Download(names) => { download::call(rt, alloc, &names, files, dial, gate, watch) }
@@ -143,6 +145,8 @@ pub fn knx<
     // what each command tells: the first test that fails, or exactly the text that the definitions give for what was read
     ensures check { (names : ProjectWords) → asked (map string_bytes words.now) ≡ Some (AskedCheck names) → TellsOfProject IsCountsText names (F.now files.old) (F.now files.new) (Replies (K.now out.old) (K.now out.new) result) }
     ensures tables { (names : ProjectWords) → asked (map string_bytes words.now) ≡ Some (AskedTables names) → TellsOfProject IsTablesText names (F.now files.old) (F.now files.new) (Replies (K.now out.old) (K.now out.new) result) }
+    // and of `migrate` the text of the project in version 2, which means for each device what the project means
+    ensures migrate { (names : ProjectWords) → asked (map string_bytes words.now) ≡ Some (AskedMigrate names) → TellsOfProject IsMigratedText names (F.now files.old) (F.now files.new) (Replies (K.now out.old) (K.now out.new) result) }
     ensures decode { (word : List ℕ) → asked (map string_bytes words.now) ≡ Some (AskedDecode word) → TellsOfFrame word (Replies (K.now out.old) (K.now out.new) result) }
     ensures sim { (names : SimWords) → asked (map string_bytes words.now) ≡ Some (AskedSim names) → RunsScript names (F.now files.old) (F.now files.new) sim.old (record { line = sim.new; report = last.new }) (Replies (K.now out.old) (K.now out.new) result) }
     ensures download { (names : DownloadWords) → asked (map string_bytes words.now) ≡ Some (AskedDownload names) → RunsDialled names (F.now files.old) (F.now files.new) (D.now dial.old) (D.now dial.new) last.new (Replies (K.now out.old) (K.now out.new) result) }

@@ -20,6 +20,7 @@ ghost use Rattle.knx_top.specs.commands.Download.{DownloadWords, RunsDialled, do
 ghost use Rattle.knx_top.specs.commands.Gateway.{GatewayWords, RunsGateway, gateway_told};
 ghost use Rattle.call_parts.specs.Project.{ProjectWords, TellsOfProject, project_told};
 ghost use Rattle.knx_top.specs.commands.Sim.{RunsScript, SimWords, commission_told};
+ghost use Rattle.knx_top.specs.commands.Migrate.{IsMigratedText};
 ghost use Rattle.knx_top.specs.commands.Tables.{IsTablesText};
 
 use calm_law::{
@@ -27,7 +28,7 @@ use calm_law::{
     the_gateway_tells_its_own_address, undisturbing_scripts_are_calm,
 };
 
-/// Where the files of `check` or `tables` are told, no test fails and no count rose, what the clauses of `knx` say comes to this: the
+/// Where the files of `check`, `tables` or `migrate` are told, no test fails and no count rose, what the clauses of `knx` say comes to this: the
 /// whole text is written with status 0, or there was no memory. So it is with `decode`, where the word is one of octets; and with `sim`
 /// and `big`: what is asked for is run, and the whole report, or its sums, is written with its status, or there was no memory. And so with
 /// `download` and `gateway`: the gateway or the port of the words is opened once, and what came of it is written whole with its status, or
@@ -35,6 +36,7 @@ use calm_law::{
 pub fn valid_input_is_told()
     ensures check { (words : ProjectWords) (files files' : FilesNow) (out out' : SinkNow) (ending : Status) → IsValid files.file words → NoneRose files files' out out' → TellsOfProject IsCountsText words files files' (Replies out out' ending) → IsToldWhole (IsCountsText (project_told (texts_told files.file words))) out out' ending }
     ensures tables { (words : ProjectWords) (files files' : FilesNow) (out out' : SinkNow) (ending : Status) → IsValid files.file words → NoneRose files files' out out' → TellsOfProject IsTablesText words files files' (Replies out out' ending) → IsToldWhole (IsTablesText (project_told (texts_told files.file words))) out out' ending }
+    ensures migrate { (words : ProjectWords) (files files' : FilesNow) (out out' : SinkNow) (ending : Status) → IsValid files.file words → NoneRose files files' out out' → TellsOfProject IsMigratedText words files files' (Replies out out' ending) → IsToldWhole (IsMigratedText (project_told (texts_told files.file words))) out out' ending }
     ensures decode { (word octets : List ℕ) (out out' : SinkNow) (ending : Status) → hex_word word ≡ Some octets → ¬ Rose out.faults out'.faults → TellsOfFrame word (Replies out out' ending) → IsToldWhole (IsFrameText octets) out out' ending }
     ensures sim { (words : SimWords) (files files' : FilesNow) (before : BusNow) (after : Left) (out out' : SinkNow) (ending : Status) → IsValidRun files.file words → NoneRose files files' out out' → RunsScript words files files' before after (Replies out out' ending)
         → IsRunTold (λ told. Reports told) (commission_told words (sim_texts_told files.file words)) after out out' ending }

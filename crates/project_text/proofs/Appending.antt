@@ -8,11 +8,11 @@ use Rattle.knx_model.specs.declared.project.What.{What}
 use Rattle.knx_model.specs.Statements.{statement}
 use Rattle.project_text.specs.Migrated.{numbered_from, numbered_after}
 
-length_numbered : (n : ℕ) (ws : List What) → length (numbered_from n ws) ≡ length ws
+pub length_numbered : (n : ℕ) (ws : List What) → length (numbered_from n ws) ≡ length ws
 length_numbered n [] = refl
 length_numbered n (w ∷ ws) = omega (arith, length_numbered (n + 1) ws)
 
-numbered_append : (n : ℕ) (ws vs : List What) → numbered_from n (ws ++ vs) ≡ numbered_from n ws ++ numbered_from (n + length ws) vs
+pub numbered_append : (n : ℕ) (ws vs : List What) → numbered_from n (ws ++ vs) ≡ numbered_from n ws ++ numbered_from (n + length ws) vs
 numbered_append n [] vs = ap (λ (k : ℕ). numbered_from k vs) (omega arith)
 numbered_append n (w ∷ ws) vs = ap (λ (t : List Statement). statement n w ∷ t) (numbered_append (n + 1) ws vs ∙ ap (λ (k : ℕ). numbered_from (n + 1) ws ++ numbered_from k vs) (omega arith))
 

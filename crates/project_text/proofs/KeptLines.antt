@@ -25,7 +25,7 @@ flat_numbered f n [] = refl
 flat_numbered {A = A} f n (w ∷ ws) = ap (λ (t : List A). f w ++ t) (flat_numbered f (n + 1) ws)
 
 -- the first that f finds, as the first of all that it finds
-abbrev first_of : {X : Type 0} → List X → Option X
+abbrev pub first_of : {X : Type 0} → List X → Option X
 first_of [] = None
 first_of (x ∷ xs) = Some x
 
@@ -114,28 +114,29 @@ kept_say f silent (s ∷ ss) =
     ∙ one_line f silent s.what (filter_map f (flat_map (λ s. one_by_one s.what) ss))
     ∙ ap (cons_option (f s.what)) (kept_say f silent ss)
 
-quiet_send : {A : Type 0} (f : What → Option A) → IsSilent f → (device : IndAddr) (n : ℕ) (first sending : Option GroupAddr) → option_and_then f (send_by device n first sending) ≡ None
-quiet_send f silent device n None sending = refl
-quiet_send f silent device n (Some x) None = refl
-quiet_send f silent device n (Some x) (Some g) = silent.send device n g
+quiet_send : {A : Type 0} (f : What → Option A) → ((device : IndAddr) (n : ℕ) (group : GroupAddr) → f (Send device n group) ≡ None) → (device : IndAddr) (n : ℕ) (first sending : Option GroupAddr) → option_and_then f (send_by device n first sending) ≡ None
+quiet_send f none device n None sending = refl
+quiet_send f none device n (Some x) None = refl
+quiet_send f none device n (Some x) (Some g) = none device n g
 
-sends_silent : {A : Type 0} (f : What → Option A) → IsSilent f → (n : ℕ) (ss : List Statement) → filter_map f (sends_below n ss) ≡ []
+sends_silent : {A : Type 0} (f : What → Option A) → ((device : IndAddr) (n : ℕ) (group : GroupAddr) → f (Send device n group) ≡ None) → (n : ℕ) (ss : List Statement) → filter_map f (sends_below n ss) ≡ []
 unfolding sends_below
-sends_silent f silent n ss =
+sends_silent f none n ss =
     filter_filter f (λ k. send_of ss (device_at k) (object_at k)) (range_with_len 0 n)
     ∙ filter_none (λ k. option_and_then f (send_of ss (device_at k) (object_at k))) (range_with_len 0 n) (λ k.
-    let d = device_at k in quiet_send f silent d (object_at k) (first_group (link_lines d ss) (object_at k)) (sending_group (last_send d ss) (link_lines d ss) (object_at k)))
+    let d = device_at k in quiet_send f none d (object_at k) (first_group (link_lines d ss) (object_at k)) (sending_group (last_send d ss) (link_lines d ss) (object_at k)))
 
-all_silent : {A : Type 0} (f : What → Option A) → IsSilent f → (ss : List Statement) → filter_map f (sends ss) ≡ []
+-- what no `send` line says, none of the migrated project's says
+pub all_silent : {A : Type 0} (f : What → Option A) → ((device : IndAddr) (n : ℕ) (group : GroupAddr) → f (Send device n group) ≡ None) → (ss : List Statement) → filter_map f (sends ss) ≡ []
 unfolding sends
-all_silent f silent ss = sends_silent f silent 16777216 ss
+all_silent f none ss = sends_silent f none 16777216 ss
 
 -- the migrated project says it as the project does
 pub migrated_say : {A : Type 0} (f : What → Option A) → IsSilent f → (ss : List Statement) → filter_map (λ s. f s.what) (migrated ss) ≡ filter_map (λ s. f s.what) ss
 unfolding migrated
 migrated_say {A = A} f silent ss =
     filter_numbered f 1 ((Version ∷ kept ss) ++ sends ss)
-    ∙ rw silent.version (filter_map-append f (kept ss) (sends ss) ∙ ap (λ (t : List A). filter_map f (kept ss) ++ t) (all_silent f silent ss) ∙ append-nil (filter_map f (kept ss)) ∙ kept_say f silent ss)
+    ∙ rw silent.version (filter_map-append f (kept ss) (sends ss) ∙ ap (λ (t : List A). filter_map f (kept ss) ++ t) (all_silent f silent.send ss) ∙ append-nil (filter_map f (kept ss)) ∙ kept_say f silent ss)
 
 pub migrated_first : {A : Type 0} (f : What → Option A) → IsSilent f → (ss : List Statement) → first_some f (migrated ss) ≡ first_some f ss
 migrated_first f silent ss = first_some-filter f (migrated ss) ∙ ap first_of (migrated_say f silent ss) ∙ sym (first_some-filter f ss)

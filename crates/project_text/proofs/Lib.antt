@@ -1,3 +1,5 @@
+pub mod MigratedSound
+pub mod LineTests
 pub mod SendsKept
 pub mod Appending
 pub mod MigratedAgain

@@ -1,6 +1,6 @@
 //! Laws of the project language, each a function without a body whose contract is the law.
 
-ghost use Rattle.std.specs.Prelude.{◌≡◌, ◌<◌, ◌≤◌, ℕ, Bool, List as Seq, [], ◌∷◌, ◌++◌, length, take, Some, Ok, Err, IsTrue, ◌↔◌};
+ghost use Rattle.std.specs.Prelude.{◌≡◌, ◌<◌, ◌≤◌, ℕ, Bool, List as Seq, [], ◌∷◌, ◌++◌, length, take, Some, None, Ok, Err, IsTrue, ◌↔◌};
 ghost use Rattle.std.specs.Str.Lines.{lines};
 ghost use Rattle.knx_model.specs.LeastLine.{AllLinesSay, IsLeastRefused, refused_from};
 ghost use Rattle.knx_model.specs.Statements.{are_spellable, are_numbered, grammar_of, project_says, reading, words_say};
@@ -8,6 +8,7 @@ ghost use Rattle.knx_model.specs.declared.address.IndAddr.{IndAddr};
 ghost use Rattle.knx_model.specs.declared.catalogue.model.NamedModel.{NamedModel};
 ghost use Rattle.knx_model.specs.declared.project.Grammar.{Grammar};
 ghost use Rattle.knx_model.specs.Meaning.{meaning};
+ghost use Rattle.knx_model.specs.Rules.{first_broken};
 ghost use Rattle.knx_model.specs.declared.project.Statement.{Statement};
 ghost use Rattle.knx_model.specs.declared.project.TextVersion.{TextVersion};
 ghost use Rattle.knx_model.specs.declared.project.What.{What};
@@ -69,4 +70,9 @@ pub fn migrated_reads_again()
 /// A project that is migrated twice is as the one that is migrated once.
 pub fn migrated_twice()
     ensures { (statements : Seq Statement) → migrated (migrated statements) ≡ migrated statements }
+{}
+
+/// A project that breaks no rule breaks none when it is migrated.
+pub fn migrated_breaks_no_rule()
+    ensures { (catalogue : Seq NamedModel) (statements : Seq Statement) → first_broken catalogue statements ≡ None → first_broken catalogue (migrated statements) ≡ None }
 {}

@@ -1,11 +1,12 @@
 //! A project is written as one of version 2.
 
-ghost use Rattle.std.specs.Prelude.{◌≡◌, ℕ, ◌+◌, ◌*◌, ◌<◌, ◌≤◌, ◌==◌, ◌∷◌, [], List as Seq, length, map, Some, None, Ok, IfOk, OnOk, IsTrue, if◌then◌else◌};
+ghost use Rattle.std.specs.Prelude.{◌≡◌, ℕ, ◌+◌, ◌*◌, ◌<◌, ◌≤◌, ◌==◌, ◌∷◌, [], List as Seq, length, map, Some, None, Ok, IfOk, OnOk, OnErr, IsTrue, if◌then◌else◌};
 ghost use Rattle.std.specs.Ordering.{nat_cmp};
 ghost use Rattle.std.specs.Option.{option_or};
 ghost use Rattle.std.specs.BTreeMap.{get, IsOrdered};
 ghost use Rattle.knx_model.specs.Numbers.{is_name};
 ghost use Rattle.knx_model.specs.Meaning.{links_said, send_line, first_group, meaning};
+ghost use Rattle.knx_model.specs.Rules.{first_broken};
 ghost use Rattle.knx_model.specs.Statements.{is_spellable, are_spelled, reading};
 ghost use Rattle.knx_model.specs.declared.address.IndAddr.{IndAddr as Device};
 ghost use Rattle.knx_model.specs.declared.catalogue.model.NamedModel.{NamedModel};
@@ -134,7 +135,8 @@ fn lasts(alloc: Global, statements: &[Statement<'_>]) -> Result<BTreeMap<u32, Gr
 
 /// The number of the line behind so many. There is no memory for a project of more lines than a number can have.
 fn line_after(count: usize) -> Result<u32, NoMemory>
-    ensures { IfOk result (λ line. line ≡ count + 1) }
+    ensures next { IfOk result (λ line. line ≡ count + 1) }
+    ensures long { OnErr result (4294967295 ≤ count) }
 {
     if count >= u32::MAX as usize {
         return Err(NoMemory::from(AllocError));
@@ -230,13 +232,13 @@ fn put_kept<'a>(
         What::Flags {
             device,
             object,
-            flags,
+            flags: octet,
         } => put(
             out,
             What::Flags {
                 device: *device,
                 object: *object,
-                flags: *flags,
+                flags: *octet,
             },
         ),
         What::Param {
@@ -330,6 +332,8 @@ pub fn migrate<'a>(alloc: Global, project: &Project<'a>) -> Result<Project<'a>, 
     ensures value { IfOk result (λ made. made.statements ≡ migrated project.now.statements) }
     // It means for each device what the project means.
     ensures same { IfOk result (λ made. (catalogue : Seq NamedModel) (device : Device) → meaning (record { statements = made.statements; catalogue = catalogue }) device ≡ meaning (record { statements = project.now.statements; catalogue = catalogue }) device) }
+    // Where the project breaks no rule, it breaks none.
+    ensures sound { IfOk result (λ made. (catalogue : Seq NamedModel) → first_broken catalogue project.now.statements ≡ None → first_broken catalogue made.statements ≡ None) }
     // Migrated once more it stays, and its text reads as it.
     ensures twice { IfOk result (λ made. migrated made.statements ≡ made.statements) }
     ensures again { IfOk result (λ made. length (printed made.statements) ≤ 4194304 → reading (printed made.statements) ≡ Ok made.statements) }

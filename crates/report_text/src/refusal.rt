@@ -14,7 +14,7 @@ use std::alloc::Global;
 
 /// The line for words that are no command.
 pub const USAGE: &[u8] =
-    b"usage: knx check, tables, sim, download, gateway, decode, find, assign or big, with their words\n";
+    b"usage: knx check, tables, migrate, sim, download, gateway, decode, find, assign or big, with their words\n";
 
 /// The line for want of memory.
 pub const NO_MEMORY: &[u8] = b"no memory\n";

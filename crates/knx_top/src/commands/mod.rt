@@ -11,6 +11,7 @@ pub mod decode;
 pub mod download;
 pub mod find;
 pub mod gateway;
+pub mod migrate;
 pub mod sim;
 pub mod tables;
 
@@ -30,6 +31,8 @@ pub enum Command<'a> {
     Check(ProjectNames<'a>),
     /// `tables P [catalogue=F]`
     Tables(ProjectNames<'a>),
+    /// `migrate P [catalogue=F]`
+    Migrate(ProjectNames<'a>),
     /// `sim NEW OLD SCRIPT [catalogue=F] [log] [quiet] [workers=N]`, and jobs
     Sim(SimNames<'a>),
     /// `decode HEX`
@@ -76,6 +79,7 @@ pub fn asked(words: &[String]) -> Option<Command<'_>>
         "assign" => assign_asked(others),
         "check" => Some(Command::Check(project_names(others)?)),
         "tables" => Some(Command::Tables(project_names(others)?)),
+        "migrate" => Some(Command::Migrate(project_names(others)?)),
         "sim" => Some(Command::Sim(sim_names(others)?)),
         "decode" => Some(Command::Decode(decode_word(others)?)),
         "download" => Some(Command::Download(download_names(others)?)),

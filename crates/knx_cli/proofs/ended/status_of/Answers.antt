@@ -37,6 +37,9 @@ returns-in-Ok-clause-check g c = rw (c.in-Ok.is, ← c.as_slice.ensures.value, t
 pub returns-in-Ok-clause-tables : goal.returns-in-Ok-clause-tables
 returns-in-Ok-clause-tables g c = rw (c.in-Ok.is, ← c.as_slice.ensures.value, told c.knx.result c.number.result c.number.ensures) c.knx.ensures.tables
 
+pub returns-in-Ok-clause-migrate : goal.returns-in-Ok-clause-migrate
+returns-in-Ok-clause-migrate g c = rw (c.in-Ok.is, ← c.as_slice.ensures.value, told c.knx.result c.number.result c.number.ensures) c.knx.ensures.migrate
+
 pub returns-in-Ok-clause-decode : goal.returns-in-Ok-clause-decode
 returns-in-Ok-clause-decode g c = rw (c.in-Ok.is, ← c.as_slice.ensures.value, told c.knx.result c.number.result c.number.ensures) c.knx.ensures.decode
 

@@ -1,4 +1,4 @@
-use Rattle.knx_top.proofs.Calls.{usage_of, check_of, tables_of, decode_of, sim_of, big_of, link_of, download_of, gateway_of, find_of, assign_of, assign_sim_of, line_of, no_run_of, faults_in, ran_of}
+use Rattle.knx_top.proofs.Calls.{usage_of, check_of, tables_of, migrate_of, decode_of, sim_of, big_of, link_of, download_of, gateway_of, find_of, assign_of, assign_sim_of, line_of, no_run_of, faults_in, ran_of}
 use Rattle.knx_top.proofs.Undisturbed.{Laws, nothing_fails}
 use Rattle.knx_top.proofs.Statuses.{AnswersWith, answers_with}
 use Rattle.knx_top.proofs.Watches.{watches_of}
@@ -14,6 +14,9 @@ returns-clause-check g c = λ names. check_of _ _ _ _ names c.answer.ensures.doe
 
 pub returns-clause-tables : goal.returns-clause-tables
 returns-clause-tables g c = λ names. tables_of _ _ _ _ names c.answer.ensures.does
+
+pub returns-clause-migrate : goal.returns-clause-migrate
+returns-clause-migrate g c = λ names. migrate_of _ _ _ _ names c.answer.ensures.does
 
 pub returns-clause-decode : goal.returns-clause-decode
 returns-clause-decode g c = λ word. decode_of _ _ _ _ word c.answer.ensures.does

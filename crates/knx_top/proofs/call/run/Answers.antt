@@ -1,5 +1,6 @@
 use Rattle.std.proofs.Common.{◌≡◌, true, false, refl}
 use Rattle.knx_top.specs.commands.Check.{IsCountsText}
+use Rattle.knx_top.specs.commands.Migrate.{IsMigratedText}
 use Rattle.knx_top.specs.commands.Tables.{IsTablesText}
 use Rattle.knx_top.proofs.commands.Assigns.{assign_no_run, assign_sim_no_run}
 use Rattle.knx_top.proofs.commands.Decodes.{frame_no_run}
@@ -12,6 +13,9 @@ returns-in-Check-clause-does g c = rw c.in-Check.is (c.call.ensures.told, record
 
 pub returns-in-Tables-clause-does : goal.returns-in-Tables-clause-does
 returns-in-Tables-clause-does g c = rw c.in-Tables.is (c.call-in-Tables.ensures.told, record { line = refl; report = project_no_run IsTablesText _ _ _ c.call-in-Tables.result c.call-in-Tables.ensures.told })
+
+pub returns-in-Migrate-clause-does : goal.returns-in-Migrate-clause-does
+returns-in-Migrate-clause-does g c = rw c.in-Migrate.is (c.call-in-Migrate.ensures.told, record { line = refl; report = project_no_run IsMigratedText _ _ _ c.call-in-Migrate.result c.call-in-Migrate.ensures.told })
 
 pub returns-in-Sim-clause-does : goal.returns-in-Sim-clause-does
 returns-in-Sim-clause-does g c = rw c.in-Sim.is (c.call-in-Sim.ensures.told, c.call-in-Sim.ensures.link)
@@ -45,6 +49,9 @@ returns-in-Check-clause-watched g c = rw c.in-Check.is (λ run. absurd (let e : 
 
 pub returns-in-Tables-clause-watched : goal.returns-in-Tables-clause-watched
 returns-in-Tables-clause-watched g c = rw c.in-Tables.is (λ run. absurd (let e : false ≡ true = run in cc))
+
+pub returns-in-Migrate-clause-watched : goal.returns-in-Migrate-clause-watched
+returns-in-Migrate-clause-watched g c = rw c.in-Migrate.is (λ run. absurd (let e : false ≡ true = run in cc))
 
 pub returns-in-Decode-clause-watched : goal.returns-in-Decode-clause-watched
 returns-in-Decode-clause-watched g c = rw c.in-Decode.is (λ run. absurd (let e : false ≡ true = run in cc))

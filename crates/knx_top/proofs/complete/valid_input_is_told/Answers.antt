@@ -2,6 +2,7 @@ use Rattle.knx_top.proofs.Completeness.{complete, decoded}
 use Rattle.knx_top.proofs.DialsTold.{download_is_told, gateway_is_told}
 use Rattle.knx_top.proofs.RunsTold.{made_told, script_told}
 use Rattle.knx_top.specs.commands.Check.{IsCountsText}
+use Rattle.knx_top.specs.commands.Migrate.{IsMigratedText}
 use Rattle.knx_top.specs.commands.Tables.{IsTablesText}
 use Rattle.knx_top.proofs.complete.valid_input_is_told.Goals as goal
 
@@ -10,6 +11,9 @@ returns-clause-check c = complete IsCountsText
 
 pub returns-clause-tables : goal.returns-clause-tables
 returns-clause-tables c = complete IsTablesText
+
+pub returns-clause-migrate : goal.returns-clause-migrate
+returns-clause-migrate c = complete IsMigratedText
 
 pub returns-clause-decode : goal.returns-clause-decode
 returns-clause-decode c = decoded

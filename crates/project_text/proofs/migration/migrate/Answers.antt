@@ -3,6 +3,7 @@ use Rattle.knx_model.specs.declared.project.Statement.{Statement}
 use Rattle.knx_model.specs.Statements.{are_spelled, version_of}
 use Rattle.project_text.specs.Migrated.{migrated}
 use Rattle.project_text.proofs.MigratedAgain.{spelled_in, made_spellable, made_numbered, made_twice, made_read, made_means}
+use Rattle.project_text.proofs.MigratedSound.{made_sound}
 use Rattle.project_text.proofs.migration.migrate.Goals as goal
 
 pub made-requires : goal.made-requires
@@ -29,3 +30,6 @@ returns-clause-twice c = made_twice c.args.project.now.statements c.in_ok-statem
 
 pub returns-clause-again : goal.returns-clause-again
 returns-clause-again c = made_read c.args.project.now.statements c.in_ok-statements.statements (c.in_ok-statements.ensures ∙ ap migrated c.as_slice.ensures) c.args.project.now.spelled
+
+pub returns-clause-sound : goal.returns-clause-sound
+returns-clause-sound c = made_sound c.args.project.now.statements c.in_ok-statements.statements (c.in_ok-statements.ensures ∙ ap migrated c.as_slice.ensures)

@@ -1,0 +1,54 @@
+//! `migrate P [catalogue=F]`: a project as one of version 2.
+
+ghost use Rattle.std.specs.Prelude.{◌≡◌, ◌≤◌, ◌+◌, ℕ, IfOk, List, None, length};
+ghost use Rattle.knx_model.specs.declared.catalogue.model.NamedModel.{NamedModel};
+ghost use Rattle.knx_model.specs.Rules.{first_broken};
+ghost use Rattle.call_parts.specs.Ending.{Is, TellsOf, end_told};
+ghost use Rattle.call_parts.specs.Project.{TellsOfProject, files_of_project, judged_project, project_words_of};
+ghost use Rattle.knx_top.specs.commands.Migrate.{IsMigratedText};
+
+use call_parts::{End, ProjectNames, ProjectTexts, read_in, read_project_texts, sound_in};
+use call_words::{InputFile, Stop};
+use knx_model::{Files, NoMemory, Octets};
+use project_text::{Project, migrate, print_project};
+use std::alloc::Global;
+use std::thread::Threads;
+
+/// The text of the migrated project.
+fn migrated_text(alloc: Global, project: &Project<'_>) -> Result<Octets, NoMemory>
+    ensures { IfOk result (λ text. (catalogue : List NamedModel) → first_broken catalogue project.now.statements ≡ None → IsMigratedText (record { statements = project.now.statements; catalogue = catalogue }) text) }
+{
+    let made = migrate(alloc, project)?;
+    let text = print_project(alloc, &made)?;
+    Ok(text)
+}
+
+/// What was read, migrated.
+fn told<R: Threads + Sync>(
+    rt: &R,
+    alloc: Global,
+    names: ProjectNames<'_>,
+    texts: &ProjectTexts,
+) -> Result<Octets, Stop>
+    ensures { TellsOf IsMigratedText (judged_project (project_words_of names.entry) texts.now) (end_told result) }
+{
+    let read = read_in(rt, alloc, names, texts)?;
+    sound_in(rt, alloc, InputFile::New, &read.project, &read.models)?;
+    let text = migrated_text(alloc, &read.project)?;
+    Ok(text)
+}
+
+/// A call of `migrate`.
+pub fn call<R: Threads + Sync, F: Files>(
+    rt: &R,
+    alloc: Global,
+    names: ProjectNames<'_>,
+    files: &mut F,
+) -> End
+    ensures told { TellsOfProject IsMigratedText (project_words_of names.entry) (F.now files.old) (F.now files.new) (Is result) }
+    ensures stays { (other : List ℕ) → (F.now files.new).file other ≡ (F.now files.old).file other }
+    ensures reads { (F.now files.new).reads ≤ (F.now files.old).reads + length (files_of_project (project_words_of names.entry)) }
+{
+    let texts = read_project_texts(alloc, files, names);
+    End::told(told(rt, alloc, names, &texts))
+}
