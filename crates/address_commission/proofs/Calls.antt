@@ -136,7 +136,9 @@ poll_talks (Err fault) why told e s t g h wanted l new p =
 pub polls_so : (longest : ℕ) (P : List Placed → List Placed → Type 0) (s t : Story) (new : List Placed) (x : Step P s new) → Growing (PollsWithin (clock_of s) longest) s t → Growing (Each BeatsInTime) s t → Growing (Each LeavesAlone) s t → exact_places_in t ≡ Some new → PollsSo longest x.old x.added
 polls_so longest P s t new x within beats alone p = record {
   within = subst (λ (c : Clock). PollsWithin c longest x.old x.added) (is_exact s x.old x.told) (also P (PollsWithin (clock_of s) longest) s t new x within p);
-  beats = also P (Each BeatsInTime) s t new x beats p; alone = also P (Each LeavesAlone) s t new x alone p }
+  beats = also P (Each BeatsInTime) s t new x beats p;
+  alone = also P (Each LeavesAlone) s t new x alone p;
+}
 
 pub poll_until : (longest : ℕ) (e : Ear) (s t : Story) → GoesOn s t → Growing (PollsWithin (clock_of s) longest) s t → Growing (Each BeatsInTime) s t → Growing (Each LeavesAlone) s t → (wanted : IndAddr) → WhereExact (Listens wanted e) s → WhereExact (PacedUntil wanted) t
 poll_until longest e s t g within beats alone wanted l new p =
