@@ -20,7 +20,6 @@ use Rattle.tunnel_link.specs.Adds.{Growing, PutsIt, PutsOne, moments_on}
 use Rattle.tunnel_link.specs.Alone.{Each, EndsNone}
 use Rattle.tunnel_link.specs.Goes.{GoesOn}
 use Rattle.tunnel_link.specs.Paces.{TakesNoTime}
-use Rattle.tunnel_link.specs.Rights.{WhereTold}
 use Rattle.address_world.specs.declared.asked.Asked.{Asked}
 use Rattle.address_world.specs.declared.asked.Asked.TheVariants.{Read, Connect, Disconnect, Write}
 use Rattle.address_world.specs.Keeps.{frame_of}
@@ -36,6 +35,7 @@ use Rattle.address_commission.specs.Ends.{FailsSo, ToldAs, CausedBy, AsksGoes, T
 use Rattle.address_commission.proofs.Calls.{paced_on, paced_so_far}
 use Rattle.address_commission.proofs.Folds.{NoGot, quiet_on, count_on}
 use Rattle.address_commission.proofs.Steps.{step_of}
+use Rattle.address_commission.specs.Exact.{WhereExact}
 
 -- ---- which frames are reads
 
@@ -162,7 +162,7 @@ module _ (wanted : IndAddr) (asked : Asked) (e f : Ear) (cemi : List ℕ) (at : 
         };
       }
 
-  pub put_goes : (s t : Story) → GoesOn s t → Growing (PutsOne {X = Unit {0}} (Ok tt) cemi at) s t → Growing (Each TakesNoTime) s t → Growing (Each EndsNone) s t → WhereTold (IsTurnTo wanted asked) s → AsksGoes {X = Unit {0}} wanted asked e f s t (Ok tt)
+  pub put_goes : (s t : Story) → GoesOn s t → Growing (PutsOne {X = Unit {0}} (Ok tt) cemi at) s t → Growing (Each TakesNoTime) s t → Growing (Each EndsNone) s t → WhereExact (IsTurnTo wanted asked) s → AsksGoes {X = Unit {0}} wanted asked e f s t (Ok tt)
   put_goes s t g h time none turn = record {
     listens = λ l new p.
         let x = step_of (PutsOne {X = Unit {0}} (Ok tt) cemi at) s t new g h p in
@@ -175,7 +175,7 @@ module _ (wanted : IndAddr) (asked : Asked) (e f : Ear) (cemi : List ℕ) (at : 
     fails = λ l. tt;
   }
 
-  pub put_fails : (fault : HubFault) (s t : Story) (why : AssignFault) → GoesOn s t → Growing (PutsOne {X = Unit {0}} (Err fault) cemi at) s t → Growing (Each TakesNoTime) s t → Growing (Each EndsNone) s t → WhereTold (IsTurnTo wanted asked) s → WhereTold (FailsSo why) t → AsksGoes {X = Unit {0}} wanted asked e f s t (Err why)
+  pub put_fails : (fault : HubFault) (s t : Story) (why : AssignFault) → GoesOn s t → Growing (PutsOne {X = Unit {0}} (Err fault) cemi at) s t → Growing (Each TakesNoTime) s t → Growing (Each EndsNone) s t → WhereExact (IsTurnTo wanted asked) s → WhereExact (FailsSo why) t → AsksGoes {X = Unit {0}} wanted asked e f s t (Err why)
   put_fails fault s t why g h time none turn cause = record {
     listens = λ l. tt;
     moves = λ l. tt;
@@ -222,7 +222,7 @@ out_by wanted asked f new (r ∷ rs) before m h s w = record {
   quiet = λ reads. subst (λ (n : ℕ). n + listening_wait ≤ newest_time (entries new)) s (quiet_enough wanted asked f.since (newest_time (entries new)) w.enough (sym m.0 ∙ reads));
 }
 
-pub asked_out : (wanted : IndAddr) (asked : Asked) (e f : Ear) (s u : Story) → AsksGoes {X = Unit {0}} wanted asked e f s u (Ok tt) → WhereTold (HasWaited (quiet_after asked) f) u → WhereTold (Listens wanted e) s → WhereTold (IsOut wanted f) u
+pub asked_out : (wanted : IndAddr) (asked : Asked) (e f : Ear) (s u : Story) → AsksGoes {X = Unit {0}} wanted asked e f s u (Ok tt) → WhereExact (HasWaited (quiet_after asked) f) u → WhereExact (Listens wanted e) s → WhereExact (IsOut wanted f) u
 asked_out wanted asked e f s u m w l new p =
     let listens = m.listens l new p in
     let x = m.moves l new p in
@@ -236,7 +236,7 @@ asked_out wanted asked e f s u m w l new p =
 -- ---- by what the client's end of the tunnel told
 
 pub put_told : (wanted : IndAddr) (asked : Asked) (e f : Ear) (cemi : List ℕ) (at : ℕ) → ldata_in cemi ≡ Some (frame_of wanted asked) → Before asked e f → (call : Result (Unit {0}) HubFault) (result : Result (Unit {0}) AssignFault) → ToldAs call result → (s t : Story) → GoesOn s t → Growing (PutsOne call cemi at) s t
-    → Growing (Each TakesNoTime) s t → Growing (Each EndsNone) s t → WhereTold (IsTurnTo wanted asked) s → WhereTold (CausedBy result) t → AsksGoes wanted asked e f s t result
+    → Growing (Each TakesNoTime) s t → Growing (Each EndsNone) s t → WhereExact (IsTurnTo wanted asked) s → WhereExact (CausedBy result) t → AsksGoes wanted asked e f s t result
 put_told wanted asked e f cemi at is b (Ok done) (Ok same) told s t g h time none turn cause = put_goes wanted asked e f cemi at is b s t g h time none turn
 put_told wanted asked e f cemi at is b (Ok done) (Err why) told s t g h time none turn cause = absurd (cc)
 put_told wanted asked e f cemi at is b (Err fault) (Ok done) told s t g h time none turn cause = absurd (cc)
@@ -244,10 +244,10 @@ put_told wanted asked e f cemi at is b (Err fault) (Err why) told s t g h time n
 
 -- ---- a request and its wait, where it listened before
 
-pub asked_fails : {X : Type 0} (wanted : IndAddr) (asked : Asked) (e f : Ear) (s u : Story) (result : Result X AssignFault) → AsksGoes wanted asked e f s u result → WhereTold (Listens wanted e) s → TalkFails wanted u result
+pub asked_fails : {X : Type 0} (wanted : IndAddr) (asked : Asked) (e f : Ear) (s u : Story) (result : Result X AssignFault) → AsksGoes wanted asked e f s u result → WhereExact (Listens wanted e) s → TalkFails wanted u result
 asked_fails wanted asked e f s u result m l = m.fails l
 
-pub out_goes : (wanted : IndAddr) (asked : Asked) (e f : Ear) (s u : Story) (result : Result (Unit {0}) AssignFault) → AsksGoes wanted asked e f s u result → OnOk result (WhereTold (HasWaited (quiet_after asked) f) u) → WhereTold (Listens wanted e) s → OnOk result (WhereTold (IsOut wanted f) u)
+pub out_goes : (wanted : IndAddr) (asked : Asked) (e f : Ear) (s u : Story) (result : Result (Unit {0}) AssignFault) → AsksGoes wanted asked e f s u result → OnOk result (WhereExact (HasWaited (quiet_after asked) f) u) → WhereExact (Listens wanted e) s → OnOk result (WhereExact (IsOut wanted f) u)
 out_goes wanted asked e f s u (Ok done) m w l = asked_out wanted asked e f s u m w l
 out_goes wanted asked e f s u (Err why) m w l = tt
 
@@ -260,7 +260,7 @@ listens_by wanted Connect old (r ∷ rs) m = inl refl
 listens_by wanted Disconnect old (r ∷ rs) m = inl refl
 listens_by wanted Write old (r ∷ rs) m = inl refl
 
-pub listens_for : (wanted : IndAddr) (asked : Asked) (s t : Story) → Going (AsksOne wanted asked) s t → WhereTold (λ places. ListensFor (quiet_after asked) (rounds (moments places))) t
+pub listens_for : (wanted : IndAddr) (asked : Asked) (s t : Story) → Going (AsksOne wanted asked) s t → WhereExact (λ places. ListensFor (quiet_after asked) (rounds (moments places))) t
 listens_for wanted asked s t m new p = let x = m new p in listens_by wanted asked (rounds (moments x.old)) (rounds (moments new)) x.is
 
 still_for : (quiet : ℕ) (rs ss : List Round) → GoOn rs ss → ListensFor quiet rs → ListensFor quiet ss
@@ -269,7 +269,7 @@ still_for quiet (r ∷ rs) [] g h = absurd g
 still_for quiet (r ∷ rs) (s ∷ ss) g (inl none) = inl none
 still_for quiet (r ∷ rs) (s ∷ ss) g (inr h) = inr (h.0, λ wanted. g.0 ∙ h.1 wanted)
 
-pub still_listens_for : (quiet : ℕ) (s t : Story) → Going SameRounds s t → WhereTold (λ places. ListensFor quiet (rounds (moments places))) s → WhereTold (λ places. ListensFor quiet (rounds (moments places))) t
+pub still_listens_for : (quiet : ℕ) (s t : Story) → Going SameRounds s t → WhereExact (λ places. ListensFor quiet (rounds (moments places))) s → WhereExact (λ places. ListensFor quiet (rounds (moments places))) t
 still_listens_for quiet s t m h new p = let x = m new p in still_for quiet (rounds (moments x.old)) (rounds (moments new)) x.is (h x.old x.told)
 
 -- as long as it hasn't waited, something is awaited until the listening ends
@@ -290,8 +290,8 @@ awaits_by wanted quiet longest now newest since e (r ∷ rs) (inr f) h not rest 
       absurd (let z : now < now = omega (arith, less, is, all, over, lt) in omega (arith, z))
   by_quiet false w = not some (ltb-false (newest - since) quiet w)
 
-pub awaits_for : (quiet longest now : ℕ) (e : Ear) (s : Story) → WhereTold (λ places. ListensFor quiet (rounds (moments places))) s → WhereTold (λ places. now ≡ newest_time (entries places)) s → WhereTold (λ places. HasWaited quiet e places → ⊥) s
-    → (e.confirmed ≢ None → now - e.since < quiet → longest ≡ quiet - (now - e.since)) → (wanted : IndAddr) → WhereTold (Listens wanted e) s → WhereTold (AwaitsFor wanted longest) s
+pub awaits_for : (quiet longest now : ℕ) (e : Ear) (s : Story) → WhereExact (λ places. ListensFor quiet (rounds (moments places))) s → WhereExact (λ places. now ≡ newest_time (entries places)) s → WhereExact (λ places. HasWaited quiet e places → ⊥) s
+    → (e.confirmed ≢ None → now - e.since < quiet → longest ≡ quiet - (now - e.since)) → (wanted : IndAddr) → WhereExact (Listens wanted e) s → WhereExact (AwaitsFor wanted longest) s
 awaits_for quiet longest now e s f time not rest wanted l places p then lt place out =
     let h = (l places p).hears in
     let is : now ≡ newest_time (entries places) = time places p in

@@ -7,7 +7,7 @@ use Rattle.line_model.specs.declared.fault.HubFault.{HubFault}
 use Rattle.line_model.specs.Asks.{HasPlace}
 use Rattle.line_model.specs.ClientView.{channel}
 use Rattle.line_model.specs.Record.{Placed, entries, is_poll}
-use Rattle.line_model.specs.LinkStory.{Story, places_in, newest_time}
+use Rattle.line_model.specs.LinkStory.{Story, Clock, clock_of, newest_time}
 use Rattle.line_model.specs.Faults.{datagrams_taken, flood}
 use Rattle.line_model.specs.Moments.{moments}
 use Rattle.tunnel_link.specs.declared.acted.Acted.{Acted}
@@ -17,7 +17,7 @@ use Rattle.tunnel_link.specs.Adds.{Growing, Acts, Seeks, PollAdds, moments_on}
 use Rattle.tunnel_link.specs.Alone.{Each, EndsNone, LeavesAlone}
 use Rattle.tunnel_link.specs.Goes.{GoesOn}
 use Rattle.tunnel_link.specs.Paces.{TakesNoTime, BeatsInTime, PollsWithin}
-use Rattle.tunnel_link.specs.Rights.{WhereTold, at_most_64_bits}
+use Rattle.tunnel_link.specs.Rights.{at_most_64_bits}
 use Rattle.address_commission.specs.declared.assigned.AssignFault.{AssignFault}
 use Rattle.address_commission.specs.declared.assigned.AssignFault.TheVariants.{TunnelLost, LinkFailed, GatewayRefused, Flooded, NoMemory}
 use Rattle.address_commission.specs.declared.ear.Ear.{Ear}
@@ -27,37 +27,39 @@ use Rattle.address_commission.specs.Going.{Going, SameRounds}
 use Rattle.address_commission.specs.Listening.{AwaitsFor, HearsWhat, Listens}
 use Rattle.address_commission.specs.Ends.{FailsSo, FailsRightly, ToldAs, EndsFor, TalkGoes}
 use Rattle.address_commission.specs.Pace.{Paced, PacedUntil}
+use Rattle.address_commission.proofs.Exacts.{is_exact}
 use Rattle.address_commission.proofs.Folds.{talks_on, puts_none}
 use Rattle.address_commission.proofs.Heard.{go_same, go_on}
 use Rattle.address_commission.proofs.Pacing.{PollsSo, also, still_paced, so_far, poll_paced, poll_paced_until}
 use Rattle.address_commission.proofs.Steps.{Step, step_of, nothing_talks, nothing_same, nothing_listens, Polled, poll_step, polled_listens}
+use Rattle.address_commission.specs.Exact.{WhereExact, exact_places_in}
 
 -- ---- what was so before
 
 -- of the places after a call, what held of those before
-pub before : (P : List Placed → Type 0) (s : Story) (old : List Placed) → WhereTold P s → places_in s ≡ Some old → P old
+pub before : (P : List Placed → Type 0) (s : Story) (old : List Placed) → WhereExact P s → exact_places_in s ≡ Some old → P old
 before P s old h e = h old e
 
 -- ---- a call that fails
 
 -- a call fails for this, after which all that was put was rightly put
-pub failed : {X : Type 0} (Q : List Placed → List Placed → Type 0) (e f : Ear) (s t : Story) (why : AssignFault) → ((wanted : IndAddr) → WhereTold (Listens wanted e) s → WhereTold (FailsRightly wanted why) t)
+pub failed : {X : Type 0} (Q : List Placed → List Placed → Type 0) (e f : Ear) (s t : Story) (why : AssignFault) → ((wanted : IndAddr) → WhereExact (Listens wanted e) s → WhereExact (FailsRightly wanted why) t)
     → TalkGoes {X = X} Q e f s t (Err why)
 failed Q e f s t why fails = record { listens = λ wanted h. tt; moves = λ wanted h. tt; fails = fails }
 
 -- it is told that the client's end of the tunnel failed
-pub told_failed : {X : Type 0} (Q : List Placed → List Placed → Type 0) (e f : Ear) (s t : Story) (why : AssignFault) → WhereTold (FailsSo why) t → ((wanted : IndAddr) → WhereTold (Listens wanted e) s → WhereTold (TalksRightly wanted) t)
-    → ((wanted : IndAddr) → WhereTold (Listens wanted e) s → WhereTold (PacedUntil wanted) t) → TalkGoes {X = X} Q e f s t (Err why)
+pub told_failed : {X : Type 0} (Q : List Placed → List Placed → Type 0) (e f : Ear) (s t : Story) (why : AssignFault) → WhereExact (FailsSo why) t → ((wanted : IndAddr) → WhereExact (Listens wanted e) s → WhereExact (TalksRightly wanted) t)
+    → ((wanted : IndAddr) → WhereExact (Listens wanted e) s → WhereExact (PacedUntil wanted) t) → TalkGoes {X = X} Q e f s t (Err why)
 told_failed Q e f s t why cause talks paced = failed Q e f s t why (λ wanted h places p. record { cause = cause places p; rightly = talks wanted h places p; paced = paced wanted h places p })
 
 -- ---- a call that lets no time pass, and doesn't ask to end the open channel
 
-pub paced_on : (e : Ear) (s t : Story) → GoesOn s t → Growing (Each TakesNoTime) s t → Growing (Each EndsNone) s t → (wanted : IndAddr) → WhereTold (Listens wanted e) s → WhereTold (Paced wanted) t
+pub paced_on : (e : Ear) (s t : Story) → GoesOn s t → Growing (Each TakesNoTime) s t → Growing (Each EndsNone) s t → (wanted : IndAddr) → WhereExact (Listens wanted e) s → WhereExact (Paced wanted) t
 paced_on e s t g time none wanted l new p =
     let x = step_of (Each TakesNoTime) s t new g time p in
     subst (Paced wanted) (sym x.grow) (still_paced wanted x.added x.old x.is (also (Each TakesNoTime) (Each EndsNone) s t new x none p) (l x.old x.told).stands.paced)
 
-pub paced_so_far : (e : Ear) (s t : Story) → GoesOn s t → Growing (Each TakesNoTime) s t → Growing (Each EndsNone) s t → (wanted : IndAddr) → WhereTold (Listens wanted e) s → WhereTold (PacedUntil wanted) t
+pub paced_so_far : (e : Ear) (s t : Story) → GoesOn s t → Growing (Each TakesNoTime) s t → Growing (Each EndsNone) s t → (wanted : IndAddr) → WhereExact (Listens wanted e) s → WhereExact (PacedUntil wanted) t
 paced_so_far e s t g time none wanted l new p = so_far wanted new (paced_on e s t g time none wanted l new p)
 
 -- a `?` hands on this fault
@@ -72,7 +74,7 @@ told_ok (Err fault) x h = absurd (cc)
 
 -- ---- what is due
 
-pub act_talks : (result : Result Acted HubFault) (e : Ear) (s t : Story) → GoesOn s t → Growing (Acts result) s t → (wanted : IndAddr) → WhereTold (Listens wanted e) s → WhereTold (TalksRightly wanted) t
+pub act_talks : (result : Result Acted HubFault) (e : Ear) (s t : Story) → GoesOn s t → Growing (Acts result) s t → (wanted : IndAddr) → WhereExact (Listens wanted e) s → WhereExact (TalksRightly wanted) t
 act_talks (Ok acted) e s t g h wanted l new p =
     let x = step_of (Acts (Ok acted)) s t new g h p in
     nothing_talks wanted e x.old x.added new x.grow x.moments_grow x.is.0 (l x.old x.told).stands.rightly
@@ -98,12 +100,12 @@ act_goes (Err why) acted e s t g h time none stays lost =
 -- ---- what is awaited
 
 -- where nothing can be put
-pub none_awaited : (s : Story) → WhereTold (λ places. HasPlace (channel (entries places)) → ⊥) s → (wanted : IndAddr) (longest : ℕ) → WhereTold (AwaitsFor wanted longest) s
+pub none_awaited : (s : Story) → WhereExact (λ places. HasPlace (channel (entries places)) → ⊥) s → (wanted : IndAddr) (longest : ℕ) → WhereExact (AwaitsFor wanted longest) s
 none_awaited s without wanted longest places p now lt place heard = without places p place
 
 -- ---- a new channel
 
-pub seek_talks : (result : Result Bool HubFault) (e : Ear) (s t : Story) → GoesOn s t → Growing (Seeks result) s t → (wanted : IndAddr) → WhereTold (Listens wanted e) s → WhereTold (TalksRightly wanted) t
+pub seek_talks : (result : Result Bool HubFault) (e : Ear) (s t : Story) → GoesOn s t → Growing (Seeks result) s t → (wanted : IndAddr) → WhereExact (Listens wanted e) s → WhereExact (TalksRightly wanted) t
 seek_talks result e s t g h wanted l new p =
     let x = step_of (Seeks result) s t new g h p in
     nothing_talks wanted e x.old x.added new x.grow x.moments_grow x.is.nothing (l x.old x.told).stands.rightly
@@ -125,31 +127,35 @@ seek_goes sought e s t g h time none = record {
 
 -- ---- a poll
 
-pub poll_talks : (result : Result Came HubFault) (why : AssignFault) → ToldAs result (Err why) → (e : Ear) (s t : Story) → GoesOn s t → Growing (PollAdds result) s t → (wanted : IndAddr) → WhereTold (Listens wanted e) s → WhereTold (TalksRightly wanted) t
+pub poll_talks : (result : Result Came HubFault) (why : AssignFault) → ToldAs result (Err why) → (e : Ear) (s t : Story) → GoesOn s t → Growing (PollAdds result) s t → (wanted : IndAddr) → WhereExact (Listens wanted e) s → WhereExact (TalksRightly wanted) t
 poll_talks (Ok came) why told e s t g h wanted l new p = absurd (cc)
 poll_talks (Err fault) why told e s t g h wanted l new p =
     let x = step_of (PollAdds (Err fault)) s t new g h p in
     subst (TalksRightly wanted) (sym x.grow) (talks_on wanted x.old x.added (puts_none (moments_on x.old x.added) x.is.puts_none) (l x.old x.told).stands.rightly)
 
-pub polls_so : (longest : ℕ) (P : List Placed → List Placed → Type 0) (s t : Story) (new : List Placed) (x : Step P s new) → Growing (PollsWithin longest) s t → Growing (Each BeatsInTime) s t → Growing (Each LeavesAlone) s t → places_in t ≡ Some new → PollsSo longest x.old x.added
-polls_so longest P s t new x within beats alone p = record { within = also P (PollsWithin longest) s t new x within p; beats = also P (Each BeatsInTime) s t new x beats p; alone = also P (Each LeavesAlone) s t new x alone p }
+pub polls_so : (longest : ℕ) (P : List Placed → List Placed → Type 0) (s t : Story) (new : List Placed) (x : Step P s new) → Growing (PollsWithin (clock_of s) longest) s t → Growing (Each BeatsInTime) s t → Growing (Each LeavesAlone) s t → exact_places_in t ≡ Some new → PollsSo longest x.old x.added
+polls_so longest P s t new x within beats alone p = record {
+  within = subst (λ (c : Clock). PollsWithin c longest x.old x.added) (is_exact s x.old x.told) (also P (PollsWithin (clock_of s) longest) s t new x within p);
+  beats = also P (Each BeatsInTime) s t new x beats p;
+  alone = also P (Each LeavesAlone) s t new x alone p;
+}
 
-pub poll_until : (longest : ℕ) (e : Ear) (s t : Story) → GoesOn s t → Growing (PollsWithin longest) s t → Growing (Each BeatsInTime) s t → Growing (Each LeavesAlone) s t → (wanted : IndAddr) → WhereTold (Listens wanted e) s → WhereTold (PacedUntil wanted) t
+pub poll_until : (longest : ℕ) (e : Ear) (s t : Story) → GoesOn s t → Growing (PollsWithin (clock_of s) longest) s t → Growing (Each BeatsInTime) s t → Growing (Each LeavesAlone) s t → (wanted : IndAddr) → WhereExact (Listens wanted e) s → WhereExact (PacedUntil wanted) t
 poll_until longest e s t g within beats alone wanted l new p =
-    let x = step_of (PollsWithin longest) s t new g within p in
-    poll_paced_until wanted longest x.old x.added new x.grow (polls_so longest (PollsWithin longest) s t new x within beats alone p) (l x.old x.told).stands.paced
+    let x = step_of (PollsWithin (clock_of s) longest) s t new g within p in
+    poll_paced_until wanted longest x.old x.added new x.grow (polls_so longest (PollsWithin (clock_of s) longest) s t new x within beats alone p) (l x.old x.told).stands.paced
 
 -- a count of 64 bits, and what it counts
 counted : (n k : ℕ) → k < 2 ^ 64 - 1 → (min n (2 ^ 64 - 1) < k → n < k) × (k ≤ min n (2 ^ 64 - 1) → k ≤ n)
 counted n k lt = (λ h. omega (arith, h, lt), λ h. omega (arith, h, lt))
 
-module _ (longest : ℕ) (came : Came) (e f : Ear) (now taken : ℕ) (s t : Story) (g : GoesOn s t) (h : Growing (PollAdds (Ok came)) s t) (within : Growing (PollsWithin longest) s t) (beats : Growing (Each BeatsInTime) s t) (alone : Growing (Each LeavesAlone) s t)
-    (awaits : (wanted : IndAddr) → WhereTold (Listens wanted e) s → WhereTold (AwaitsFor wanted longest) s) (w : HearsWhat came.what now e f) (at : WhereTold (λ places. now ≡ newest_time (entries places)) t)
-    (counts : WhereTold (λ places. taken ≡ at_most_64_bits (datagrams_taken (entries places))) t) where
-  polled : (wanted : IndAddr) (new : List Placed) → WhereTold (Listens wanted e) s → places_in t ≡ Some new → (x : Step (PollAdds (Ok came)) s new) → Polled wanted f came.loss x.old new
+module _ (longest : ℕ) (came : Came) (e f : Ear) (now taken : ℕ) (s t : Story) (g : GoesOn s t) (h : Growing (PollAdds (Ok came)) s t) (within : Growing (PollsWithin (clock_of s) longest) s t) (beats : Growing (Each BeatsInTime) s t) (alone : Growing (Each LeavesAlone) s t)
+    (awaits : (wanted : IndAddr) → WhereExact (Listens wanted e) s → WhereExact (AwaitsFor wanted longest) s) (w : HearsWhat came.what now e f) (at : WhereExact (λ places. now ≡ newest_time (entries places)) t)
+    (counts : WhereExact (λ places. taken ≡ at_most_64_bits (datagrams_taken (entries places))) t) where
+  polled : (wanted : IndAddr) (new : List Placed) → WhereExact (Listens wanted e) s → exact_places_in t ≡ Some new → (x : Step (PollAdds (Ok came)) s new) → Polled wanted f came.loss x.old new
   polled wanted new l p x = poll_step wanted e f came now x.old x.added new x.grow x.moments_grow x.is w (at new p) (l x.old x.told)
 
-  step : (new : List Placed) → places_in t ≡ Some new → Step (PollAdds (Ok came)) s new
+  step : (new : List Placed) → exact_places_in t ≡ Some new → Step (PollAdds (Ok came)) s new
   step new p = step_of (PollAdds (Ok came)) s t new g h p
 
   pub poll_floods : {X : Type 0} → 16777216 ≤ taken → TalkGoes {X = X} SameRounds e f s t (Err Flooded)

@@ -12,7 +12,7 @@ use Rattle.line_model.specs.Asks.{HasPlace}
 use Rattle.line_model.specs.Closing.{asks_to_end, is_open}
 use Rattle.line_model.specs.Haste.{KeepsPaces}
 use Rattle.line_model.specs.Record.{Placed, entries}
-use Rattle.line_model.specs.LinkStory.{Story, places_in, newest_time}
+use Rattle.line_model.specs.LinkStory.{Story, newest_time}
 use Rattle.line_model.specs.ClientView.{ClientChannel, Fresh, Sought, RefusedBy, Unanswered, Open, Lost, Deed, Puts, Takes, Loses, Nothing as DoesNothing, channel}
 use Rattle.line_model.specs.Moments.{Moment, moments}
 use Rattle.line_model.specs.Signs.{Every}
@@ -26,7 +26,7 @@ use Rattle.tunnel_link.specs.Adds.{Growing, Acts, Leaves, PollAdds, PutsNone, On
 use Rattle.tunnel_link.specs.Alone.{Each, EndsNone, LeavesAlone, Nothing, Once, SendsOnce}
 use Rattle.tunnel_link.specs.Goes.{GoesOn}
 use Rattle.tunnel_link.specs.Paces.{TakesNoTime}
-use Rattle.tunnel_link.specs.Rights.{FailsWhere, WhereTold}
+use Rattle.tunnel_link.specs.Rights.{FailsWhere}
 use Rattle.tunnel_link.proofs.Acting.{grows_then}
 use Rattle.tunnel_link.proofs.SeekKept.{grows_as}
 use Rattle.tunnel_link.proofs.Stories.{goes_again}
@@ -39,9 +39,11 @@ use Rattle.address_commission.specs.Going.{Going, GoOn, SameRounds}
 use Rattle.address_commission.specs.Ends.{Answered, AnsweredBy, ClosesSo, ComesLate, EndsOnce, EndsSo, FailsBy, FailsSo, HasAwaited, Leaves as LeavesAnswered, LeavesOn, LeavesSince, PaceKept, ToldAs, fault_of}
 use Rattle.std.specs.Prelude.{IfErr, OnOk}
 use Rattle.address_commission.proofs.Leaving.{awaits_after, request_left}
+use Rattle.address_commission.proofs.Exacts.{told_too}
 use Rattle.address_commission.proofs.Folds.{nothing_rounds, one_rounds, NotPuts, PutsNo, nothing_puts, one_puts, not_puts, talks_on}
 use Rattle.address_commission.proofs.Heard.{go_same, go_on, go_frame}
-use Rattle.address_commission.proofs.Steps.{step_of, told_before, some_is}
+use Rattle.address_commission.proofs.Steps.{Step, step_of, told_before, some_is}
+use Rattle.address_commission.specs.Exact.{WhereExact, exact_places_in}
 
 go_deed : (d : Deed) (rs : List Round) → NotPuts d → GoOn rs (after_deed d rs)
 go_deed (Puts cemi) rs h = absurd h
@@ -174,8 +176,8 @@ asked_by s t g h old p =
     record { new = x.new; told = x.told; added = x.added; grown = x.grown; is = request_by old x.added (subst (SendsOnce old) same y.is) (x.is.so.1) }
 
 -- it doesn't ask only where no channel is open
-pub must_ask : (s t : Story) → Growing (Leaves (Ok false)) s t → WhereTold (λ places. HasPlace (channel (entries places))) s → (old : List Placed) → places_in s ≡ Some old → ⊥
-must_ask s t g place old p = let x = g old p in absurd (let e : false ≡ true = x.is.so.0 ∙ open_place (channel (entries old)) (place old p) in cc)
+pub must_ask : (s t : Story) → Growing (Leaves (Ok false)) s t → WhereExact (λ places. HasPlace (channel (entries places))) s → (old : List Placed) → exact_places_in s ≡ Some old → ⊥
+must_ask s t g place old p = let x = g old (told_too s old p) in absurd (let e : false ≡ true = x.is.so.0 ∙ open_place (channel (entries old)) (place old p) in cc)
 
 later_ends : (old one two : List Placed) → Request old one → Each EndsNone (one ++ old) two → EndsOnce old (two ++ one)
 later_ends old one two r none = record {
@@ -189,19 +191,18 @@ later_ends old one two r none = record {
 ends_after : (s t u : Story) → GoesOn s t → GoesOn t u → Growing (Leaves (Ok true)) s t → Growing SendsOnce s t → Growing (Each EndsNone) t u → Growing EndsOnce s u
 ends_after s t u g h leaves once none = grows_then Request (Each EndsNone) EndsOnce s t u g h later_ends (asked_by s t leaves once) none
 
-ends_by : (asked : Bool) (s t u : Story) → GoesOn s t → GoesOn t u → Growing (Leaves (Ok asked)) s t → Growing SendsOnce s t → Growing (Each EndsNone) t u → WhereTold (λ places. HasPlace (channel (entries places))) s → Growing EndsOnce s u
-ends_by true s t u g h leaves once none place = ends_after s t u g h leaves once none
-ends_by false s t u g h leaves once none place = λ old p. absurd (must_ask s t leaves place old p)
+ends_by : (asked : Bool) (s t u : Story) → GoesOn s t → GoesOn t u → Growing (Leaves (Ok asked)) s t → Growing SendsOnce s t → Growing (Each EndsNone) t u → WhereExact (λ places. HasPlace (channel (entries places))) s → (new : List Placed) → exact_places_in u ≡ Some new → Step EndsOnce s new
+ends_by true s t u g h leaves once none place new p = step_of EndsOnce s u new (goes_again s t u g h) (ends_after s t u g h leaves once none) p
+ends_by false s t u g h leaves once none place new p = let b = told_before s u new (goes_again s t u g h) p in absurd (must_ask s t leaves place b.0 b.1)
 
 module _ (call : Result Bool HubFault) (began : ℕ) (s t u : Story) (g : GoesOn s t) (h : GoesOn t u) (leaves : Growing (Leaves call) s t) (once : Growing SendsOnce s t) (time : Growing (Each TakesNoTime) s t) (none : Growing (Each EndsNone) t u)
-    (place : WhereTold (λ places. HasPlace (channel (entries places))) s) (kept : WhereTold (λ places. has_lost (moments places) ≡ false) s) (now : WhereTold (λ places. began ≡ newest_time (entries places)) s) where
-  leaves_on : (asked : Bool) → call ≡ Ok asked → ((talk : List Placed) → newest_time (entries talk) ≡ began → WhereTold (LeavesSince 64 talk) t → WhereTold (HasAwaited talk) u) → Going LeavesOn s u
+    (place : WhereExact (λ places. HasPlace (channel (entries places))) s) (kept : WhereExact (λ places. has_lost (moments places) ≡ false) s) (now : WhereExact (λ places. began ≡ newest_time (entries places)) s) where
+  leaves_on : (asked : Bool) → call ≡ Ok asked → ((talk : List Placed) → newest_time (entries talk) ≡ began → WhereExact (LeavesSince 64 talk) t → WhereExact (HasAwaited talk) u) → Going LeavesOn s u
   leaves_on asked is awaited new p =
       let b = told_before s u new (goes_again s t u g h) p in
-      let ends : Growing EndsOnce s u = ends_by asked s t u g h (subst (λ (r : Result Bool HubFault). Growing (Leaves r) s t) is leaves) once none place in
-      awaits_after s u b.0 b.1 (goes_again s t u g h) ends (awaited b.0 (sym (now b.0 b.1)) (request_left call b.0 s t g leaves once time b.1 kept)) new p
+      awaits_after s u b.0 b.1 (awaited b.0 (sym (now b.0 b.1)) (request_left call b.0 s t g leaves once time b.1 kept)) new p (ends_by asked s t u g h (subst (λ (r : Result Bool HubFault). Growing (Leaves r) s t) is leaves) once none place new p)
 
-  pub leaves_so : {X : Type 0} (asked : Bool) → call ≡ Ok asked → (result : Result X AssignFault) → OnOk result ((talk : List Placed) → newest_time (entries talk) ≡ began → WhereTold (LeavesSince 64 talk) t → WhereTold (HasAwaited talk) u) → OnOk result (Going LeavesOn s u)
+  pub leaves_so : {X : Type 0} (asked : Bool) → call ≡ Ok asked → (result : Result X AssignFault) → OnOk result ((talk : List Placed) → newest_time (entries talk) ≡ began → WhereExact (LeavesSince 64 talk) t → WhereExact (HasAwaited talk) u) → OnOk result (Going LeavesOn s u)
   leaves_so asked is (Ok x) awaited = leaves_on asked is awaited
   leaves_so asked is (Err why) awaited = tt
 
@@ -239,7 +240,7 @@ failed_by why old new is h = subst (λ (z : AssignFault). FailsBy z old new) is 
 
 -- ---- after an answer
 
-pub answered_at : (wanted : IndAddr) (assigned : Assigned) (s t : Story) → WhereTold (AnsweredBy wanted assigned) s → Going (ClosesSo wanted) s t → Going PaceKept s t → WhereTold (Answered wanted assigned) t
+pub answered_at : (wanted : IndAddr) (assigned : Assigned) (s t : Story) → WhereExact (AnsweredBy wanted assigned) s → Going (ClosesSo wanted) s t → Going PaceKept s t → WhereExact (Answered wanted assigned) t
 answered_at wanted assigned s t a c k new p =
     let x = c new p in
     let y = k new p in
@@ -247,8 +248,8 @@ answered_at wanted assigned s t a c k new p =
     let by = a x.old x.told in
     record { talk = x.old; answered = by; closes = x.is.goes_on; rightly = x.is.rightly by.stands.rightly; keeps = y.is (subst (λ (z : List Placed). KeepsPaces (entries z)) (sym same) by.stands.paced.keeps) }
 
-pub closing_fails : (wanted : IndAddr) (assigned : Assigned) (why : AssignFault) (s t : Story) → WhereTold (AnsweredBy wanted assigned) s → Going (ClosesSo wanted) s t → Going PaceKept s t → WhereTold (FailsSo why) t → ComesLate why → WhereTold (EndsSo wanted (Err why)) t
+pub closing_fails : (wanted : IndAddr) (assigned : Assigned) (why : AssignFault) (s t : Story) → WhereExact (AnsweredBy wanted assigned) s → Going (ClosesSo wanted) s t → Going PaceKept s t → WhereExact (FailsSo why) t → ComesLate why → WhereExact (EndsSo wanted (Err why)) t
 closing_fails wanted assigned why s t a c k f late new p = inr (record { cause = f new p; late = late; assigned = assigned; answered = answered_at wanted assigned s t a c k new p })
 
-pub left_so : (wanted : IndAddr) (assigned : Assigned) (s t : Story) → WhereTold (AnsweredBy wanted assigned) s → Going LeavesOn s t → WhereTold (LeavesAnswered wanted assigned) t
+pub left_so : (wanted : IndAddr) (assigned : Assigned) (s t : Story) → WhereExact (AnsweredBy wanted assigned) s → Going LeavesOn s t → WhereExact (LeavesAnswered wanted assigned) t
 left_so wanted assigned s t a l new p = let x = l new p in record { talk = x.old; answered = a x.old x.told; leaves = x.is }

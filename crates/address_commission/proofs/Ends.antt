@@ -4,7 +4,7 @@ use Rattle.knx_model.specs.declared.address.IndAddr.{IndAddr}
 use Rattle.line_model.specs.Asks.{HasPlace}
 use Rattle.line_model.specs.Moments.{moments}
 use Rattle.line_model.specs.Record.{Entry, Placed, entries, counted, placed}
-use Rattle.line_model.specs.LinkStory.{Story, Untold, Recorded, Full, places_in, IsNewLink}
+use Rattle.line_model.specs.LinkStory.{Story, Untold, Recorded, Full, Exact, Running, IsNewLink}
 use Rattle.line_model.specs.ClientView.{Deed, Puts, Takes, Loses, Nothing, channel, deed}
 use Rattle.line_model.specs.Renews.{AcknowledgesRightly}
 use Rattle.line_model.specs.Sendings.{SendsRightly}
@@ -24,6 +24,8 @@ use Rattle.address_commission.specs.Rounds.{Round, rounds}
 use Rattle.address_commission.specs.Listening.{Listens, Begins}
 use Rattle.address_commission.specs.Going.{Going, GoOn, SameRounds}
 use Rattle.address_commission.specs.Ends.{EndsSo, FailsRightly}
+use Rattle.address_commission.proofs.Exacts.{told_too}
+use Rattle.address_commission.specs.Exact.{WhereExact, exact_places_in}
 
 -- ---- each request that was put is one of the three
 
@@ -44,20 +46,20 @@ ends_rightly wanted (Ok assigned) places h = h.rightly
 ends_rightly wanted (Err fault) places (inl h) = h.rightly
 ends_rightly wanted (Err fault) places (inr h) = h.answered.rightly
 
-pub fails_before : (wanted : IndAddr) (why : AssignFault) (t : Story) → WhereTold (FailsRightly wanted why) t → WhereTold (EndsSo wanted (Err why)) t
+pub fails_before : (wanted : IndAddr) (why : AssignFault) (t : Story) → WhereExact (FailsRightly wanted why) t → WhereExact (EndsSo wanted (Err why)) t
 fails_before wanted why t h new p = inl (h new p)
 
 -- ---- the units
 
-pub units_kept : (wanted : IndAddr) (result : Result Assigned AssignFault) (k : Known) (story : Story) (told : AddressStory) → WhereTold (EndsSo wanted result) story → KeepsRecord k story → Agrees told story
+pub units_kept : (wanted : IndAddr) (result : Result Assigned AssignFault) (k : Known) (story : Story) (told : AddressStory) → WhereExact (EndsSo wanted result) story → KeepsRecord k story → Agrees told story
     → ((r : List Entry) → SendsRightly r → AllAskFirst wanted r → PutsOnly wanted r) → ((start : AddressWorld) (events : List AddressEvent) → IsFresh start → PutsOnly wanted (record_of start events) → AlwaysKeepsUnits wanted start events)
     → (start : AddressWorld) (events : List AddressEvent) → told ≡ Told start events → AlwaysKeepsUnits wanted start events
 units_kept wanted result k story told ends keeps agrees puts law start events is =
     let truly : TellsTruly start events story = subst (λ (z : AddressStory). Agrees z story) is agrees in
-    let places : places_in story ≡ Some (counted (record_of start events)) = ap places_in truly.recorded in
+    let places : exact_places_in story ≡ Some (counted (record_of start events)) = ap exact_places_in truly.recorded in
     let all : entries (counted (record_of start events)) ≡ record_of start events = entries_counted (record_of start events) in
     let first : AllAskFirst wanted (record_of start events) = subst (AllAskFirst wanted) all (all_first wanted (counted (record_of start events)) (ends_rightly wanted result (counted (record_of start events)) (ends (counted (record_of start events)) places))) in
-    let sends : SendsRightly (record_of start events) = subst SendsRightly all (keeps (counted (record_of start events)) places).right.sends in
+    let sends : SendsRightly (record_of start events) = subst SendsRightly all (keeps (counted (record_of start events)) (told_too story (counted (record_of start events)) places)).right.sends in
     law start events truly.fresh (puts (record_of start events) sends first)
 
 pub acknowledged : (k : Known) (story : Story) → KeepsRecord k story → WhereTold (λ places. AcknowledgesRightly (entries places)) story
@@ -68,22 +70,23 @@ acknowledged k story keeps places e = (keeps places e).right.acknowledges
 some_is : {X : Type 0} (x y : X) → Some x ≡ Some y → x ≡ y
 some_is x y e = cc
 
-new_places : (s : Story) → IsNewLink s → (places : List Placed) → places_in s ≡ Some places → places ≡ []
+new_places : (s : Story) → IsNewLink s → (places : List Placed) → exact_places_in s ≡ Some places → places ≡ []
 new_places Untold n places e = absurd (let z : None ≡ Some places = e in cc)
-new_places (Recorded clock r) n places e = sym (some_is (counted r) places e) ∙ ap counted n
+new_places (Recorded Exact r) n places e = sym (some_is (counted r) places e) ∙ ap counted n
+new_places (Recorded Running r) n places e = absurd (let z : None ≡ Some places = e in cc)
 new_places (Full start events) n places e = sym (some_is (placed start events) places e) ∙ ap (placed start) n.0
 
 nothing_yet : (wanted : IndAddr) (e : Ear) → e ≡ record { heard = ear.Nobody; confirmed = None; since = 0 } → Listens wanted e []
 nothing_yet wanted e is = record { stands = record { rightly = tt; kept = refl; few = omega arith; paced = record { keeps = tt; stays_open = tt; waits = tt } }; hears = record { rounds_so = tt; since = ap (λ (x : Ear). x.since) is } }
 
-pub new_listens : (wanted : IndAddr) (e : Ear) (s : Story) → e ≡ record { heard = ear.Nobody; confirmed = None; since = 0 } → IsNewLink s → WhereTold (Listens wanted e) s
+pub new_listens : (wanted : IndAddr) (e : Ear) (s : Story) → e ≡ record { heard = ear.Nobody; confirmed = None; since = 0 } → IsNewLink s → WhereExact (Listens wanted e) s
 new_listens wanted e s is n places p = subst (Listens wanted e) (sym (new_places s n places p)) (nothing_yet wanted e is)
 
 go_none : (rs : List Round) → GoOn [] rs → rs ≡ []
 go_none [] g = refl
 go_none (r ∷ rs) g = absurd g
 
-pub open_begins : (s t : Story) → IsNewLink s → Going SameRounds s t → WhereTold (λ places. HasPlace (channel (entries places))) t → WhereTold Begins t
+pub open_begins : (s t : Story) → IsNewLink s → Going SameRounds s t → WhereExact (λ places. HasPlace (channel (entries places))) t → WhereExact Begins t
 open_begins s t n m place new p =
     let x = m new p in
     let none : x.old ≡ [] = new_places s n x.old x.told in

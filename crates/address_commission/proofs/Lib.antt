@@ -1,3 +1,4 @@
+pub mod Exacts
 pub mod Folds
 pub mod Heard
 pub mod Steps

@@ -11,7 +11,7 @@ use Rattle.line_model.specs.ClientView.{ClientChannel, Fresh, Sought, RefusedBy,
 use Rattle.line_model.specs.Closing.{is_open}
 use Rattle.line_model.specs.Haste.{KeepsPaces}
 use Rattle.line_model.specs.Leaves.{StaysOpen}
-use Rattle.line_model.specs.LinkStory.{Story, places_in, newest_time}
+use Rattle.line_model.specs.LinkStory.{Story, Exact, newest_time}
 use Rattle.line_model.specs.Moments.{moments, is_loss}
 use Rattle.line_model.specs.Reading.{is_connect_request, request_in}
 use Rattle.line_model.specs.Record.{Item, Put, Renewed, Got, Quiet, Entry, Placed, entries, is_got, is_poll, is_renewal, put_in, got_in}
@@ -24,14 +24,16 @@ use Rattle.address_commission.specs.Rounds.{Round, after_deed, rounds, quiet_sin
 use Rattle.address_commission.specs.Talk.{HeardOutBy}
 use Rattle.address_commission.specs.Pace.{WaitsSo, WaitsRightly, WaitsUntil, Paced, PacedUntil}
 use Rattle.address_commission.specs.Listening.{AwaitsFor}
+use Rattle.address_commission.proofs.Exacts.{told_too}
 use Rattle.address_commission.proofs.Folds.{NoGot, left_false, right_false, quiet_on, quiet_no_got}
 use Rattle.address_commission.proofs.Steps.{Step, some_is}
+use Rattle.address_commission.specs.Exact.{exact_places_in}
 
 -- another thing of what was added
-pub also : (P Q : List Placed → List Placed → Type 0) (s t : Story) (new : List Placed) (x : Step P s new) → Growing Q s t → places_in t ≡ Some new → Q x.old x.added
+pub also : (P Q : List Placed → List Placed → Type 0) (s t : Story) (new : List Placed) (x : Step P s new) → Growing Q s t → exact_places_in t ≡ Some new → Q x.old x.added
 also P Q s t new x g p =
-    let y = g x.old x.told in
-    let same : y.added ≡ x.added = append_cancel_right y.added x.added x.old (sym y.grown.grow ∙ (some_is y.new new (sym y.told ∙ p) ∙ x.grow)) in
+    let y = g x.old (told_too s x.old x.told) in
+    let same : y.added ≡ x.added = append_cancel_right y.added x.added x.old (sym y.grown.grow ∙ (some_is y.new new (sym y.told ∙ told_too t new p) ∙ x.grow)) in
     subst (Q x.old) same y.is
 
 -- ---- the open channel
@@ -245,22 +247,22 @@ poll_until wanted longest added old new grow t w =
 -- ---- by what the calls of the client's end add
 
 pub record PollsSo (longest : ℕ) (old added : List Placed) : Type 0 where
-  pub within : PollsWithin longest old added
+  pub within : PollsWithin Exact longest old added
   pub beats : Each BeatsInTime old added
   pub alone : Each LeavesAlone old added
 
 -- where the channel stays
 pub poll_paced : (wanted : IndAddr) (longest : ℕ) (came : Came) (old added new : List Placed) → new ≡ added ++ old → AwaitsFor wanted longest old → Brings came old added → PollsSo longest old added → has_lost (moments new) ≡ false → Paced wanted old → Paced wanted new
 poll_paced wanted longest came old added new grow for b s kept p = subst (Paced wanted) (sym grow) (record {
-  keeps = poll_paces added old s.within.short s.beats s.alone p.keeps;
+  keeps = poll_paces added old (s.within.short refl) s.beats s.alone p.keeps;
   stays_open = stays_on added old (ends_none old added s.alone) p.stays_open;
-  waits = poll_waits wanted longest old for came added b s.within.in_time (subst (λ (l : List Placed). has_lost (moments l) ≡ false) grow kept) p.waits;
+  waits = poll_waits wanted longest old for came added b (s.within.in_time refl) (subst (λ (l : List Placed). has_lost (moments l) ≡ false) grow kept) p.waits;
 })
 
 -- where it fails, or the channel was lost
 pub poll_paced_until : (wanted : IndAddr) (longest : ℕ) (old added new : List Placed) → new ≡ added ++ old → PollsSo longest old added → Paced wanted old → PacedUntil wanted new
 poll_paced_until wanted longest old added new grow s p = record {
-  keeps = subst (λ (l : List Placed). KeepsPaces (entries l)) (sym grow) (poll_paces added old s.within.short s.beats s.alone p.keeps);
+  keeps = subst (λ (l : List Placed). KeepsPaces (entries l)) (sym grow) (poll_paces added old (s.within.short refl) s.beats s.alone p.keeps);
   stays_open = subst (λ (l : List Placed). StaysOpen (entries l)) (sym grow) (stays_on added old (ends_none old added s.alone) p.stays_open);
-  waits = poll_until wanted longest added old new grow s.within.in_time p.waits;
+  waits = poll_until wanted longest added old new grow (s.within.in_time refl) p.waits;
 }

@@ -3,7 +3,7 @@ use Rattle.std.proofs.Common.{◌≡◌, ℕ, suc, ◌<◌, ◌≤◌, List, ◌
 use Rattle.std.specs.List.{list_any}
 use Rattle.knx_model.specs.declared.address.IndAddr.{IndAddr}
 use Rattle.line_model.specs.Record.{Placed, placed, counted, entries, is_poll}
-use Rattle.line_model.specs.LinkStory.{Story, Untold, Recorded, Full, places_in, newest_time}
+use Rattle.line_model.specs.LinkStory.{Story, Untold, Recorded, Full, Exact, Running, newest_time}
 use Rattle.line_model.specs.Faults.{datagrams_taken, flood}
 use Rattle.line_model.specs.Moments.{Moment, moments}
 use Rattle.tunnel_link.specs.declared.came.Came.{Came}
@@ -17,32 +17,35 @@ use Rattle.address_commission.specs.Pace.{Paced}
 use Rattle.address_commission.specs.Going.{GoOn, SameRounds}
 use Rattle.address_commission.specs.Listening.{HearsRounds, Hears, HearsWhat, Listens}
 use Rattle.address_commission.specs.declared.ear.Ear.{Ear}
+use Rattle.address_commission.proofs.Exacts.{told_too}
 use Rattle.address_commission.proofs.Folds.{nothing_rounds, nothing_lost, nothing_puts, talks_on, NoGot, sends_no_got, quiet_no_got, quiet_on, count_on, poll_quiet, poll_count}
 use Rattle.address_commission.proofs.Heard.{go_same, Hearing, poll_heard, poll_since}
+use Rattle.address_commission.specs.Exact.{exact_places_in}
 
 pub some_is : {X : Type 0} (x y : X) → Some x ≡ Some y → x ≡ y
 some_is x y e = cc
 
 -- what tells places told them before
-pub told_before : (s t : Story) (new : List Placed) → GoesOn s t → places_in t ≡ Some new → (old : List Placed) × (places_in s ≡ Some old)
-told_before Untold t new g e = absurd (let z : None ≡ Some new = sym (ap places_in g) ∙ e in cc)
-told_before (Recorded clock r) t new g e = (counted r, refl)
+pub told_before : (s t : Story) (new : List Placed) → GoesOn s t → exact_places_in t ≡ Some new → (old : List Placed) × (exact_places_in s ≡ Some old)
+told_before Untold t new g e = absurd (let z : None ≡ Some new = sym (ap exact_places_in g) ∙ e in cc)
+told_before (Recorded Exact r) t new g e = (counted r, refl)
+told_before (Recorded Running r) t new g e = absurd (let z : None ≡ Some new = sym (ap exact_places_in g.1) ∙ e in cc)
 told_before (Full start events) t new g e = (placed start events, refl)
 
 -- these places come from those before by what was added, of which P holds
 pub record Step (P : List Placed → List Placed → Type 0) (before : Story) (new : List Placed) : Type 0 where
   pub old : List Placed
-  pub told : places_in before ≡ Some old
+  pub told : exact_places_in before ≡ Some old
   pub added : List Placed
   pub grow : new ≡ added ++ old
   pub moments_grow : moments new ≡ moments_on old added ++ moments old
   pub is : P old added
 
-pub step_of : (P : List Placed → List Placed → Type 0) (s t : Story) (new : List Placed) → GoesOn s t → Growing P s t → places_in t ≡ Some new → Step P s new
+pub step_of : (P : List Placed → List Placed → Type 0) (s t : Story) (new : List Placed) → GoesOn s t → Growing P s t → exact_places_in t ≡ Some new → Step P s new
 step_of P s t new g h e =
     let b = told_before s t new g e in
-    let r = h b.0 b.1 in
-    let same : r.new ≡ new = some_is r.new new (sym r.told ∙ e) in
+    let r = h b.0 (told_too s b.0 b.1) in
+    let same : r.new ≡ new = some_is r.new new (sym r.told ∙ told_too t new e) in
     record {
       old = b.0;
       told = b.1;

@@ -24,7 +24,6 @@ use Rattle.tunnel_link.specs.declared.came.What.TheVariants as came
 use Rattle.tunnel_link.specs.declared.came.Loss.{Loss}
 use Rattle.tunnel_link.specs.declared.came.Loss.TheVariants.{Stays}
 use Rattle.tunnel_link.specs.Alone.{Each, EndsNone}
-use Rattle.tunnel_link.specs.Rights.{WhereTold}
 use Rattle.address_world.specs.declared.asked.Asked.{Asked}
 use Rattle.address_commission.specs.Going.{Going, GoesOnFrom, AsksOne}
 use Rattle.address_commission.specs.Listening.{Listens, Stands}
@@ -32,6 +31,7 @@ use Rattle.address_commission.specs.declared.ear.Ear.{Ear}
 use Rattle.address_commission.specs.declared.assigned.Assigned.{Assigned}
 use Rattle.address_commission.specs.declared.assigned.AssignFault.{AssignFault}
 use Rattle.address_commission.specs.declared.assigned.AssignFault.TheVariants.{TunnelLost, LinkFailed, GatewayRefused, Flooded, NoMemory}
+use Rattle.address_commission.specs.Exact.{WhereExact}
 
 -- the fault of the client's end of the tunnel
 abbrev pub fault_of : HubFault → AssignFault
@@ -159,19 +159,19 @@ CausedBy (Err fault) places = FailsSo fault places
 
 -- where it listened before it does afterwards, and P holds of how the places went on; where it failed, its cause is there, and all that was put was rightly put
 pub record TalkGoes {X : Type 0} (P : List Placed → List Placed → Type 0) (e f : Ear) (before after : Story) (result : Result X AssignFault) : Type 0 where
-  pub listens : (wanted : IndAddr) → WhereTold (Listens wanted e) before → OnOk result (WhereTold (Listens wanted f) after)
-  pub moves : (wanted : IndAddr) → WhereTold (Listens wanted e) before → OnOk result (Going P before after)
-  pub fails : (wanted : IndAddr) → WhereTold (Listens wanted e) before → IfErr result (λ fault. WhereTold (FailsRightly wanted fault) after)
+  pub listens : (wanted : IndAddr) → WhereExact (Listens wanted e) before → OnOk result (WhereExact (Listens wanted f) after)
+  pub moves : (wanted : IndAddr) → WhereExact (Listens wanted e) before → OnOk result (Going P before after)
+  pub fails : (wanted : IndAddr) → WhereExact (Listens wanted e) before → IfErr result (λ fault. WhereExact (FailsRightly wanted fault) after)
 
 -- the same of a call that puts a request, whose turn has come: where it listened before it does afterwards, and the newest round is the request's
 pub record AsksGoes {X : Type 0} (wanted : IndAddr) (asked : Asked) (e f : Ear) (before after : Story) (result : Result X AssignFault) : Type 0 where
-  pub listens : WhereTold (Listens wanted e) before → OnOk result (WhereTold (Listens wanted f) after)
-  pub moves : WhereTold (Listens wanted e) before → OnOk result (Going (AsksOne wanted asked) before after)
-  pub fails : WhereTold (Listens wanted e) before → IfErr result (λ fault. WhereTold (FailsRightly wanted fault) after)
+  pub listens : WhereExact (Listens wanted e) before → OnOk result (WhereExact (Listens wanted f) after)
+  pub moves : WhereExact (Listens wanted e) before → OnOk result (Going (AsksOne wanted asked) before after)
+  pub fails : WhereExact (Listens wanted e) before → IfErr result (λ fault. WhereExact (FailsRightly wanted fault) after)
 
 -- it failed at its cause, and all that was put was rightly put
 abbrev pub TalkFails : {X : Type 0} → IndAddr → Story → Result X AssignFault → Type 0
-TalkFails wanted after result = IfErr result (λ fault. WhereTold (FailsRightly wanted fault) after)
+TalkFails wanted after result = IfErr result (λ fault. WhereExact (FailsRightly wanted fault) after)
 
 -- the end of the channel: no request is put
 pub record ClosesSo (wanted : IndAddr) (old new : List Placed) : Type 0 where

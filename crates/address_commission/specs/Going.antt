@@ -2,21 +2,21 @@
 use Rattle.std.specs.Prelude.{◌≡◌, List, [], ◌∷◌, ◌++◌, Some}
 use Rattle.knx_model.specs.declared.address.IndAddr.{IndAddr}
 use Rattle.line_model.specs.Record.{Placed}
-use Rattle.line_model.specs.LinkStory.{Story, places_in}
+use Rattle.line_model.specs.LinkStory.{Story}
 use Rattle.line_model.specs.Moments.{moments}
-use Rattle.tunnel_link.specs.Rights.{WhereTold}
 use Rattle.address_world.specs.declared.asked.Asked.{Asked}
 use Rattle.address_commission.specs.Rounds.{Round, rounds}
 use Rattle.address_commission.specs.Talk.{AsksFor}
+use Rattle.address_commission.specs.Exact.{WhereExact, exact_places_in}
 
 -- these places come from those that the story before told, and P holds of both
 pub record ComesFrom (P : List Placed → List Placed → Type 0) (before : Story) (new : List Placed) : Type 0 where
   pub old : List Placed
-  pub told : places_in before ≡ Some old
+  pub told : exact_places_in before ≡ Some old
   pub is : P old new
 
 abbrev pub Going : (List Placed → List Placed → Type 0) → Story → Story → Type 0
-Going P before after = WhereTold (ComesFrom P before) after
+Going P before after = WhereExact (ComesFrom P before) after
 
 -- no request was put: the newest round has the same frame, and the others are the same
 abbrev pub GoOn : List Round → List Round → Type 0

@@ -1,3 +1,4 @@
+pub mod Exact
 pub mod Rounds
 pub mod Talk
 pub mod Pace

@@ -1,10 +1,10 @@
 //! One request, and its wait.
 
 ghost use Rattle.std.specs.Prelude.{◌≡◌, ◌≤◌, IfErr, OnOk, None};
-ghost use Rattle.tunnel_link.specs.Rights.{WhereTold};
 ghost use Rattle.address_commission.specs.Ends.{AsksGoes, FailsBy, TalkFails};
 ghost use Rattle.address_commission.specs.Going.{AsksOne, Going};
 ghost use Rattle.address_commission.specs.Listening.{IsOut, IsTurnTo, Listens, quiet_after};
+ghost use Rattle.address_commission.specs.Exact.{WhereExact};
 
 use crate::assigned::AssignFault;
 use crate::ear::Ear;
@@ -29,11 +29,11 @@ pub fn ask<R: Wait, L: Link>(
     asked: Asked,
 ) -> Result<(), AssignFault>
     requires stands { tunnel.old.known.fault ≡ None }
-    requires turn { WhereTold (IsTurnTo wanted asked) (L.story tunnel.old.link) }
-    requires listens { WhereTold (Listens wanted ear.old) (L.story tunnel.old.link) }
+    requires turn { WhereExact (IsTurnTo wanted asked) (L.story tunnel.old.link) }
+    requires listens { WhereExact (Listens wanted ear.old) (L.story tunnel.old.link) }
     ensures moves { OnOk result (Going (AsksOne wanted asked) (L.story tunnel.old.link) (L.story tunnel.new.link)) }
     ensures fails { TalkFails wanted (L.story tunnel.new.link) result }
-    ensures out { OnOk result (WhereTold (IsOut wanted ear.new) (L.story tunnel.new.link)) }
+    ensures out { OnOk result (WhereExact (IsOut wanted ear.new) (L.story tunnel.new.link)) }
     ensures stands { OnOk result (tunnel.new.known.fault ≡ None) }
     ensures cause { IfErr result (λ fault. FailsBy fault (L.faults tunnel.old.link) (L.faults tunnel.new.link)) }
     ensures count { L.faults tunnel.old.link ≤ L.faults tunnel.new.link }
@@ -51,7 +51,7 @@ fn put<L: Link>(
     asked: Asked,
 ) -> Result<(), AssignFault>
     requires stands { tunnel.old.known.fault ≡ None }
-    requires turn { WhereTold (IsTurnTo wanted asked) (L.story tunnel.old.link) }
+    requires turn { WhereExact (IsTurnTo wanted asked) (L.story tunnel.old.link) }
     ensures goes { AsksGoes wanted asked ear.old ear.new (L.story tunnel.old.link) (L.story tunnel.new.link) result }
     ensures stands { OnOk result (tunnel.new.known.fault ≡ None) }
     ensures cause { IfErr result (λ fault. FailsBy fault (L.faults tunnel.old.link) (L.faults tunnel.new.link)) }

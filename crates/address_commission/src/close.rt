@@ -14,10 +14,10 @@ ghost use Rattle.line_model.specs.Record.{Placed, entries};
 ghost use Rattle.tunnel_link.specs.Adds.{Growing};
 ghost use Rattle.tunnel_link.specs.Alone.{Each, EndsNone};
 ghost use Rattle.tunnel_link.specs.Goes.{GoesOn};
-ghost use Rattle.tunnel_link.specs.Rights.{WhereTold};
 ghost use Rattle.address_commission.specs.Ends.{ClosesSo, ComesLate, FailsBy, FailsSo, HasAwaited, LeavesOn, LeavesSince, LeftOn, PaceKept, got_one};
 ghost use Rattle.address_commission.specs.Going.{Going};
 ghost use Rattle.address_commission.specs.Rounds.{has_lost};
+ghost use Rattle.address_commission.specs.Exact.{WhereExact};
 
 use crate::assigned::AssignFault;
 use crate::told::told;
@@ -33,13 +33,13 @@ const MOST_DATAGRAMS: u32 = 64;
 /// Asks to end the channel, and waits for the answer. A failing link and a lost channel change nothing.
 pub fn close<R: Wait, L: Link>(rt: &R, tunnel: &mut Tunnel<L>) -> Result<(), AssignFault>
     requires stands { tunnel.old.known.fault ≡ None }
-    requires place { WhereTold (λ places. HasPlace (channel (entries places))) (L.story tunnel.old.link) }
-    requires kept { WhereTold (λ places. has_lost (moments places) ≡ false) (L.story tunnel.old.link) }
-    requires stays { WhereTold (λ places. StaysOpen (entries places)) (L.story tunnel.old.link) }
+    requires place { WhereExact (λ places. HasPlace (channel (entries places))) (L.story tunnel.old.link) }
+    requires kept { WhereExact (λ places. has_lost (moments places) ≡ false) (L.story tunnel.old.link) }
+    requires stays { WhereExact (λ places. StaysOpen (entries places)) (L.story tunnel.old.link) }
     ensures closes { (wanted : Address) → Going (ClosesSo wanted) (L.story tunnel.old.link) (L.story tunnel.new.link) }
     ensures paces { Going PaceKept (L.story tunnel.old.link) (L.story tunnel.new.link) }
     ensures leaves { OnOk result (¬ Rose (L.faults tunnel.old.link) (L.faults tunnel.new.link) → Going LeavesOn (L.story tunnel.old.link) (L.story tunnel.new.link)) }
-    ensures fails { IfErr result (λ fault. WhereTold (FailsSo fault) (L.story tunnel.new.link)) }
+    ensures fails { IfErr result (λ fault. WhereExact (FailsSo fault) (L.story tunnel.new.link)) }
     ensures late { IfErr result ComesLate }
     ensures cause { IfErr result (λ fault. FailsBy fault (L.faults tunnel.old.link) (L.faults tunnel.new.link)) }
     ensures count { L.faults tunnel.old.link ≤ L.faults tunnel.new.link }
@@ -54,13 +54,13 @@ pub fn close<R: Wait, L: Link>(rt: &R, tunnel: &mut Tunnel<L>) -> Result<(), Ass
 /// Asks to end the channel, and awaits the response.
 fn leave<R: Wait, L: Link>(rt: &R, tunnel: &mut Tunnel<L>) -> Result<(), AssignFault>
     requires stands { tunnel.old.known.fault ≡ None }
-    requires place { WhereTold (λ places. HasPlace (channel (entries places))) (L.story tunnel.old.link) }
-    requires kept { WhereTold (λ places. has_lost (moments places) ≡ false) (L.story tunnel.old.link) }
-    requires stays { WhereTold (λ places. StaysOpen (entries places)) (L.story tunnel.old.link) }
+    requires place { WhereExact (λ places. HasPlace (channel (entries places))) (L.story tunnel.old.link) }
+    requires kept { WhereExact (λ places. has_lost (moments places) ≡ false) (L.story tunnel.old.link) }
+    requires stays { WhereExact (λ places. StaysOpen (entries places)) (L.story tunnel.old.link) }
     ensures closes { (wanted : Address) → Going (ClosesSo wanted) (L.story tunnel.old.link) (L.story tunnel.new.link) }
     ensures paces { Going PaceKept (L.story tunnel.old.link) (L.story tunnel.new.link) }
     ensures leaves { OnOk result (Going LeavesOn (L.story tunnel.old.link) (L.story tunnel.new.link)) }
-    ensures fails { IfErr result (λ fault. WhereTold (FailsSo fault) (L.story tunnel.new.link)) }
+    ensures fails { IfErr result (λ fault. WhereExact (FailsSo fault) (L.story tunnel.new.link)) }
     ensures late { IfErr result (λ fault. fault ≢ AssignFault.LinkFailed → ComesLate fault) }
     ensures cause { IfErr result (λ fault. FailsBy fault (L.faults tunnel.old.link) (L.faults tunnel.new.link)) }
     ensures count { L.faults tunnel.old.link ≤ L.faults tunnel.new.link }
@@ -81,10 +81,10 @@ fn await_response<R: Wait, L: Link>(
     requires stands { tunnel.old.known.fault ≡ None }
     ensures closes { (wanted : Address) → Going (ClosesSo wanted) (L.story tunnel.old.link) (L.story tunnel.new.link) }
     ensures paces { Going PaceKept (L.story tunnel.old.link) (L.story tunnel.new.link) }
-    ensures awaited { OnOk result ((talk : Seq Placed) → newest_time (entries talk) ≡ began → WhereTold (LeavesSince 64 talk) (L.story tunnel.old.link) → WhereTold (HasAwaited talk) (L.story tunnel.new.link)) }
+    ensures awaited { OnOk result ((talk : Seq Placed) → newest_time (entries talk) ≡ began → WhereExact (LeavesSince 64 talk) (L.story tunnel.old.link) → WhereExact (HasAwaited talk) (L.story tunnel.new.link)) }
     ensures grows { GoesOn (L.story tunnel.old.link) (L.story tunnel.new.link) }
     ensures alone { Growing (Each EndsNone) (L.story tunnel.old.link) (L.story tunnel.new.link) }
-    ensures fails { IfErr result (λ fault. WhereTold (FailsSo fault) (L.story tunnel.new.link)) }
+    ensures fails { IfErr result (λ fault. WhereExact (FailsSo fault) (L.story tunnel.new.link)) }
     ensures late { IfErr result (λ fault. fault ≢ AssignFault.LinkFailed → ComesLate fault) }
     ensures cause { IfErr result (λ fault. FailsBy fault (L.faults tunnel.old.link) (L.faults tunnel.new.link)) }
     ensures count { L.faults tunnel.old.link ≤ L.faults tunnel.new.link }
@@ -110,12 +110,12 @@ fn waits<L: Link>(tunnel: &mut Tunnel<L>, longest_ms: u32) -> Result<Came, Assig
     requires stands { tunnel.old.known.fault ≡ None }
     ensures closes { (wanted : Address) → Going (ClosesSo wanted) (L.story tunnel.old.link) (L.story tunnel.new.link) }
     ensures paces { Going PaceKept (L.story tunnel.old.link) (L.story tunnel.new.link) }
-    ensures awaits { IfOk result (λ came. (left : ℕ) (talk : Seq Placed) (now : ℕ) → WhereTold (λ places. now ≡ newest_time (entries places)) (L.story tunnel.old.link) → now + longest_ms ≤ newest_time (entries talk) + answer_wait
-        → 1 ≤ left → WhereTold (LeavesSince left talk) (L.story tunnel.old.link) → WhereTold (LeftOn came left talk) (L.story tunnel.new.link)) }
+    ensures awaits { IfOk result (λ came. (left : ℕ) (talk : Seq Placed) (now : ℕ) → WhereExact (λ places. now ≡ newest_time (entries places)) (L.story tunnel.old.link) → now + longest_ms ≤ newest_time (entries talk) + answer_wait
+        → 1 ≤ left → WhereExact (LeavesSince left talk) (L.story tunnel.old.link) → WhereExact (LeftOn came left talk) (L.story tunnel.new.link)) }
     ensures stands { OnOk result (tunnel.new.known.fault ≡ None) }
     ensures grows { GoesOn (L.story tunnel.old.link) (L.story tunnel.new.link) }
     ensures alone { Growing (Each EndsNone) (L.story tunnel.old.link) (L.story tunnel.new.link) }
-    ensures fails { IfErr result (λ fault. WhereTold (FailsSo fault) (L.story tunnel.new.link)) }
+    ensures fails { IfErr result (λ fault. WhereExact (FailsSo fault) (L.story tunnel.new.link)) }
     ensures late { IfErr result (λ fault. fault ≢ AssignFault.LinkFailed → ComesLate fault) }
     ensures cause { IfErr result (λ fault. FailsBy fault (L.faults tunnel.old.link) (L.faults tunnel.new.link)) }
     ensures count { L.faults tunnel.old.link ≤ L.faults tunnel.new.link }

@@ -5,11 +5,12 @@ ghost use Rattle.knx_model.specs.Outside.{Rose};
 ghost use Rattle.line_model.specs.LinkStory.{IsNewLink};
 ghost use Rattle.line_model.specs.Record.{entries};
 ghost use Rattle.line_model.specs.Renews.{AcknowledgesRightly};
-ghost use Rattle.tunnel_link.specs.Rights.{WhereTold};
 ghost use Rattle.address_world.specs.AddressStory.{Told};
 ghost use Rattle.address_world.specs.AddressWorld.{AddressEvent, AddressWorld};
 ghost use Rattle.address_world.specs.Keeps.{AlwaysKeepsUnits};
 ghost use Rattle.address_commission.specs.Ends.{EndsSo, FailsBy, Leaves};
+ghost use Rattle.address_commission.specs.Exact.{WhereExact};
+ghost use Rattle.tunnel_link.specs.Rights.{WhereTold};
 
 use crate::assigned::{AssignFault, Assigned};
 use crate::close::close;
@@ -29,8 +30,8 @@ pub fn assign<R: Wait, L: AddressLink>(
     wanted: IndAddr,
 ) -> (L, Result<Assigned, AssignFault>)
     requires { IsNewLink (L.story link) }
-    ensures ends { WhereTold (EndsSo wanted result.1) (L.story result.0) }
-    ensures leaves { IfOk result.1 (λ assigned. ¬ Rose (L.faults link) (L.faults result.0) → WhereTold (Leaves wanted assigned) (L.story result.0)) }
+    ensures ends { WhereExact (EndsSo wanted result.1) (L.story result.0) }
+    ensures leaves { IfOk result.1 (λ assigned. ¬ Rose (L.faults link) (L.faults result.0) → WhereExact (Leaves wanted assigned) (L.story result.0)) }
     ensures acknowledges { WhereTold (λ places. AcknowledgesRightly (entries places)) (L.story result.0) }
     ensures units { (start : AddressWorld) (events : List AddressEvent) → L.told result.0 ≡ Told start events → AlwaysKeepsUnits wanted start events }
     ensures cause { IfErr result.1 (λ fault. FailsBy fault (L.faults link) (L.faults result.0)) }
@@ -55,8 +56,8 @@ fn talk<R: Wait, L: Link>(
 ) -> Result<Assigned, AssignFault>
     requires stands { tunnel.old.known.fault ≡ None }
     requires new { IsNewLink (L.story tunnel.old.link) }
-    ensures ends { WhereTold (EndsSo wanted result) (L.story tunnel.new.link) }
-    ensures leaves { IfOk result (λ assigned. ¬ Rose (L.faults tunnel.old.link) (L.faults tunnel.new.link) → WhereTold (Leaves wanted assigned) (L.story tunnel.new.link)) }
+    ensures ends { WhereExact (EndsSo wanted result) (L.story tunnel.new.link) }
+    ensures leaves { IfOk result (λ assigned. ¬ Rose (L.faults tunnel.old.link) (L.faults tunnel.new.link) → WhereExact (Leaves wanted assigned) (L.story tunnel.new.link)) }
     ensures cause { IfErr result (λ fault. FailsBy fault (L.faults tunnel.old.link) (L.faults tunnel.new.link)) }
     ensures count { L.faults tunnel.old.link ≤ L.faults tunnel.new.link }
     ensures script { L.script tunnel.new.link ≡ L.script tunnel.old.link }

@@ -5,10 +5,10 @@ ghost use Rattle.line_model.specs.Asks.{HasPlace};
 ghost use Rattle.line_model.specs.ClientView.{channel};
 ghost use Rattle.line_model.specs.Record.{entries};
 ghost use Rattle.tunnel_link.specs.Adds.{HasActed};
-ghost use Rattle.tunnel_link.specs.Rights.{WhereTold};
 ghost use Rattle.address_commission.specs.Ends.{FailsBy, TalkGoes};
 ghost use Rattle.address_commission.specs.Going.{SameRounds};
 ghost use Rattle.address_commission.specs.declared.ear.Ear.{Ear as HeldEar};
+ghost use Rattle.address_commission.specs.Exact.{WhereExact};
 
 use crate::assigned::AssignFault;
 use crate::ear::Ear;
@@ -26,7 +26,7 @@ pub fn open<R: Wait, L: Link>(
 ) -> Result<(), AssignFault>
     requires stands { tunnel.old.known.fault ≡ None }
     ensures goes { TalkGoes SameRounds ear.old ear.new (L.story tunnel.old.link) (L.story tunnel.new.link) result }
-    ensures place { OnOk result (WhereTold (λ places. HasPlace (channel (entries places))) (L.story tunnel.new.link)) }
+    ensures place { OnOk result (WhereExact (λ places. HasPlace (channel (entries places))) (L.story tunnel.new.link)) }
     ensures stands { OnOk result (tunnel.new.known.fault ≡ None) }
     ensures cause { IfErr result (λ fault. FailsBy fault (L.faults tunnel.old.link) (L.faults tunnel.new.link)) }
     ensures count { L.faults tunnel.old.link ≤ L.faults tunnel.new.link }

@@ -2,10 +2,10 @@
 
 ghost use Rattle.std.specs.Prelude.{◌≡◌, ◌≤◌, IfErr, OnOk, None, false, true};
 ghost use Rattle.line_model.specs.Moments.{moments};
-ghost use Rattle.tunnel_link.specs.Rights.{WhereTold};
 ghost use Rattle.address_commission.specs.Ends.{FailsBy, TalkFails};
 ghost use Rattle.address_commission.specs.Listening.{Begins, IsOut, Listens, SearchedSo};
 ghost use Rattle.address_commission.specs.Rounds.{rounds};
+ghost use Rattle.address_commission.specs.Exact.{WhereExact};
 
 use crate::ask::ask;
 use crate::assigned::AssignFault;
@@ -24,10 +24,10 @@ pub fn search<R: Wait, L: Link>(
     wanted: IndAddr,
 ) -> Result<(), AssignFault>
     requires stands { tunnel.old.known.fault ≡ None }
-    requires begins { WhereTold Begins (L.story tunnel.old.link) }
-    requires listens { WhereTold (Listens wanted ear.old) (L.story tunnel.old.link) }
-    ensures searched { OnOk result (WhereTold (λ places. SearchedSo wanted ear.new.heard (rounds (moments places))) (L.story tunnel.new.link)) }
-    ensures out { OnOk result (WhereTold (IsOut wanted ear.new) (L.story tunnel.new.link)) }
+    requires begins { WhereExact Begins (L.story tunnel.old.link) }
+    requires listens { WhereExact (Listens wanted ear.old) (L.story tunnel.old.link) }
+    ensures searched { OnOk result (WhereExact (λ places. SearchedSo wanted ear.new.heard (rounds (moments places))) (L.story tunnel.new.link)) }
+    ensures out { OnOk result (WhereExact (IsOut wanted ear.new) (L.story tunnel.new.link)) }
     ensures fails { TalkFails wanted (L.story tunnel.new.link) result }
     ensures stands { OnOk result (tunnel.new.known.fault ≡ None) }
     ensures cause { IfErr result (λ fault. FailsBy fault (L.faults tunnel.old.link) (L.faults tunnel.new.link)) }

@@ -2,10 +2,10 @@
 
 ghost use Rattle.std.specs.Prelude.{◌≡◌, ◌≤◌, IfErr, IfOk, OnOk, None, Some};
 ghost use Rattle.line_model.specs.Moments.{moments};
-ghost use Rattle.tunnel_link.specs.Rights.{WhereTold};
 ghost use Rattle.address_commission.specs.Ends.{AnsweredBy, FailsBy, TalkFails};
 ghost use Rattle.address_commission.specs.Listening.{Begins, FoundSo, IsOut, Listens, SureSo, TriedBy};
 ghost use Rattle.address_commission.specs.Rounds.{rounds};
+ghost use Rattle.address_commission.specs.Exact.{WhereExact};
 
 use crate::ask::ask;
 use crate::assigned::{AssignFault, Assigned};
@@ -25,9 +25,9 @@ pub fn give<R: Wait, L: Link>(
     wanted: IndAddr,
 ) -> Result<Assigned, AssignFault>
     requires stands { tunnel.old.known.fault ≡ None }
-    requires begins { WhereTold Begins (L.story tunnel.old.link) }
-    requires listens { WhereTold (Listens wanted ear.old) (L.story tunnel.old.link) }
-    ensures gives { IfOk result (λ assigned. WhereTold (AnsweredBy wanted assigned) (L.story tunnel.new.link)) }
+    requires begins { WhereExact Begins (L.story tunnel.old.link) }
+    requires listens { WhereExact (Listens wanted ear.old) (L.story tunnel.old.link) }
+    ensures gives { IfOk result (λ assigned. WhereExact (AnsweredBy wanted assigned) (L.story tunnel.new.link)) }
     ensures fails { TalkFails wanted (L.story tunnel.new.link) result }
     ensures stands { OnOk result (tunnel.new.known.fault ≡ None) }
     ensures cause { IfErr result (λ fault. FailsBy fault (L.faults tunnel.old.link) (L.faults tunnel.new.link)) }

@@ -3,11 +3,11 @@
 ghost use Rattle.std.specs.Prelude.{◌≡◌, ◌<◌, ◌≤◌, IfErr, OnOk, None};
 ghost use Rattle.knx_model.specs.declared.address.IndAddr.{IndAddr as Address};
 ghost use Rattle.tunnel_link.specs.Adds.{HasActed};
-ghost use Rattle.tunnel_link.specs.Rights.{WhereTold};
 ghost use Rattle.address_commission.specs.Ends.{EndsFor, FailsBy, TalkGoes};
 ghost use Rattle.address_commission.specs.Going.{Going, SameRounds};
 ghost use Rattle.address_commission.specs.Listening.{AwaitsFor, Listens};
 ghost use Rattle.address_commission.specs.declared.ear.Ear.{Ear as HeldEar};
+ghost use Rattle.address_commission.specs.Exact.{WhereExact};
 
 use crate::assigned::AssignFault;
 use crate::ear::Ear;
@@ -53,7 +53,7 @@ pub fn poll<L: Link>(
 ) -> Result<(), AssignFault>
     requires stands { tunnel.old.known.fault ≡ None }
     requires acted { HasActed tunnel.old.known (L.story tunnel.old.link) }
-    requires awaits { (wanted : Address) → WhereTold (Listens wanted ear.old) (L.story tunnel.old.link) → WhereTold (AwaitsFor wanted longest_ms) (L.story tunnel.old.link) }
+    requires awaits { (wanted : Address) → WhereExact (Listens wanted ear.old) (L.story tunnel.old.link) → WhereExact (AwaitsFor wanted longest_ms) (L.story tunnel.old.link) }
     ensures goes { TalkGoes SameRounds ear.old ear.new (L.story tunnel.old.link) (L.story tunnel.new.link) result }
     ensures same { Going SameRounds (L.story tunnel.old.link) (L.story tunnel.new.link) }
     ensures stands { OnOk result (tunnel.new.known.fault ≡ None) }

@@ -3,11 +3,11 @@
 ghost use Rattle.std.specs.Prelude.{◌≡◌, ◌≢◌, ◌⊎◌, ◌-◌, ◌<◌, ◌≤◌, IfErr, OnOk, None, true, false};
 ghost use Rattle.line_model.specs.Moments.{moments};
 ghost use Rattle.line_model.specs.Waiting.{longest_poll};
-ghost use Rattle.tunnel_link.specs.Rights.{WhereTold};
 ghost use Rattle.address_commission.specs.Ends.{FailsBy, TalkGoes};
 ghost use Rattle.address_commission.specs.Going.{SameRounds};
 ghost use Rattle.address_commission.specs.Listening.{HasWaited, ListensFor};
 ghost use Rattle.address_commission.specs.Rounds.{rounds};
+ghost use Rattle.address_commission.specs.Exact.{WhereExact};
 
 use crate::assigned::AssignFault;
 use crate::ear::Ear;
@@ -24,9 +24,9 @@ pub fn wait_out<R: Wait, L: Link>(
     quiet_ms: u32,
 ) -> Result<(), AssignFault>
     requires stands { tunnel.old.known.fault ≡ None }
-    requires for_it { WhereTold (λ places. ListensFor quiet_ms (rounds (moments places))) (L.story tunnel.old.link) }
+    requires for_it { WhereExact (λ places. ListensFor quiet_ms (rounds (moments places))) (L.story tunnel.old.link) }
     ensures goes { TalkGoes SameRounds ear.old ear.new (L.story tunnel.old.link) (L.story tunnel.new.link) result }
-    ensures waited { OnOk result (WhereTold (HasWaited quiet_ms ear.new) (L.story tunnel.new.link)) }
+    ensures waited { OnOk result (WhereExact (HasWaited quiet_ms ear.new) (L.story tunnel.new.link)) }
     ensures stands { OnOk result (tunnel.new.known.fault ≡ None) }
     ensures cause { IfErr result (λ fault. FailsBy fault (L.faults tunnel.old.link) (L.faults tunnel.new.link)) }
     ensures count { L.faults tunnel.old.link ≤ L.faults tunnel.new.link }
@@ -46,8 +46,8 @@ pub fn wait_out<R: Wait, L: Link>(
 /// Whether the last request is acknowledged and confirmed, and so many milliseconds in turn were quiet.
 fn has_waited<L: Link>(tunnel: &Tunnel<L>, ear: &Ear, quiet_ms: u32) -> bool
     requires stands { tunnel.now.known.fault ≡ None }
-    ensures waited { result ≡ true → WhereTold (HasWaited quiet_ms ear.now) (L.story tunnel.now.link) }
-    ensures waits { result ≡ false → WhereTold (λ places. ¬ HasWaited quiet_ms ear.now places) (L.story tunnel.now.link) }
+    ensures waited { result ≡ true → WhereExact (HasWaited quiet_ms ear.now) (L.story tunnel.now.link) }
+    ensures waits { result ≡ false → WhereExact (λ places. ¬ HasWaited quiet_ms ear.now places) (L.story tunnel.now.link) }
 {
     let has_place = tunnel.has_place();
     let passed = tunnel.now().saturating_sub(ear.since);

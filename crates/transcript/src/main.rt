@@ -9,8 +9,9 @@
 //!   `N:` before it from client N, in order, before quiet waits; `fail:N` lets its N-th call fail. What it was given is told before what the
 //!   call writes, as `gave CLIENT HEX`. Without the line no port can be bound.
 //! - `link WORDS` is the link that the next call can dial: `first:` and hexadecimal is a datagram that it gives, in order, and a word in
-//!   hexadecimal one that it gives for ever then, before quiet waits where there is none; `fail:N` lets its N-th call fail. Where it is handed
-//!   back, `link back` is told. Without the line no gateway can be dialled.
+//!   hexadecimal one that it gives for ever then, before quiet waits where there is none; `fail:N` lets its N-th call fail, and `lasts:N` says how
+//!   many milliseconds its polls last, in turn, the others as long as they should. Where it is handed back, `link back` is told. Without the line
+//!   no gateway can be dialled.
 //! - `failing reads N ..` and `failing writes N ..` let the next call's reads of files and its writes with these numbers fail.
 //! - Every other line is copied.
 #![tactic(auto)]

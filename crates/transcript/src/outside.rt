@@ -72,8 +72,8 @@ fn number_of(word: &str) -> Result<u64, Fault> {
     word.parse::<u64>().ok().ok_or(Fault::Words)
 }
 
-/// The number of a client.
-fn client_of(word: &str) -> Result<u32, Fault> {
+/// The number of a client, or of milliseconds.
+fn short_number_of(word: &str) -> Result<u32, Fault> {
     word.parse::<u32>().ok().ok_or(Fault::Words)
 }
 
@@ -99,26 +99,31 @@ fn take_datagram(
     Ok(())
 }
 
-/// A link by the words of a `link` line: it gives the datagrams that come first, then the one that is stated for ever, and fails in the calls that are stated.
+/// A link by the words of a `link` line: it gives the datagrams that come first, then the one that is stated for ever, fails in the calls that are stated,
+/// and its polls last as they are stated.
 fn link_of(alloc: Global, words: &str) -> Result<FixedLink, Fault>
     ensures { IfOk result IsUnusedLink }
 {
     let mut gives = List::new(alloc);
     let mut last = None;
     let mut fails = List::new(alloc);
+    let mut lasting = List::new(alloc);
     for word in words.split_whitespace() {
-        match word.strip_prefix("fail:") {
-            Some(number) => fails.push(number_of(number)?)?,
-            None => take_datagram(alloc, word, &mut gives, &mut last)?,
+        if let Some(number) = word.strip_prefix("fail:") {
+            fails.push(number_of(number)?)?;
+        } else if let Some(ms) = word.strip_prefix("lasts:") {
+            lasting.push(short_number_of(ms)?)?;
+        } else {
+            take_datagram(alloc, word, &mut gives, &mut last)?;
         }
     }
-    Ok(FixedLink::new(alloc, gives, last, fails))
+    Ok(FixedLink::new(alloc, gives, last, fails).with_polls(lasting))
 }
 
 /// The client that a word names before its datagram, 0 where it names none; and the datagram.
 fn sent_by(alloc: Global, word: &str) -> Result<(u32, Octets), Fault> {
     match word.split_once(':') {
-        Some((number, datagram)) => Ok((client_of(number)?, hex_octets(alloc, datagram)?)),
+        Some((number, datagram)) => Ok((short_number_of(number)?, hex_octets(alloc, datagram)?)),
         None => Ok((0, hex_octets(alloc, word)?)),
     }
 }

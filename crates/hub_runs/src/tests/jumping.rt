@@ -29,10 +29,7 @@ fn run<R: Abort + Threads + Wait + Sync>(
     let jobs = jobs_of(alloc, &[JobKind::Load])?;
     assert!(rt; jobs.len() < 100);
     let groups = group_turns(alloc, &[])?;
-    let jump = Jump {
-        poll: n,
-        ms: LONG,
-    };
+    let jump = Jump { poll: n, ms: LONG };
     let link = Gateway::new(alloc, Device::blank(alloc, DEVICE)?, Mood::Answers).jumping(jump);
     let nobody: Option<FixedWatcher> = None;
     let (link, report, _) = commission(rt, alloc, jobs, groups, link, 1, &Open, nobody);

@@ -2,6 +2,7 @@
 use Rattle.std.proofs.Common.{◌≡◌, ◌≢◌, ℕ, ◌≤◌, ◌∙◌, ap, true, ◌⊎◌, Option, None, Some, List, [], ◌∷◌, Result, Ok, Err, refl, sym, subst, inl, inr}
 use Rattle.std.specs.Prelude.{IfErr, IfOk}
 use Rattle.address_commission.specs.Ends.{EndsSo, FailsBy, Leaves}
+use Rattle.address_commission.specs.Exact.{WhereExact}
 use Rattle.address_sim.specs.Driven.{BusNow}
 use Rattle.address_sim.specs.Follows.{FollowsText}
 use Rattle.address_sim.specs.Stays.{lines_of}
@@ -151,12 +152,12 @@ units_give words reading before after end h = does_by (after ≡ before) (λ tex
 
 -- ---- what was given, by what the link told
 
-pub over_of : (wanted : IndAddr) (came : Outcome) (before faults : ℕ) (link : Story) → before ≡ 0 → WhereTold (EndsSo wanted came) link → WhereTold (λ places. AcknowledgesRightly (entries places)) link
-    → IfOk came (λ assigned. ¬ Rose before faults → WhereTold (Leaves wanted assigned) link) → IfErr came (λ fault. FailsBy fault before faults) → GivesOver wanted came faults link
+pub over_of : (wanted : IndAddr) (came : Outcome) (before faults : ℕ) (link : Story) → before ≡ 0 → WhereExact (EndsSo wanted came) link → WhereTold (λ places. AcknowledgesRightly (entries places)) link
+    → IfOk came (λ assigned. ¬ Rose before faults → WhereExact (Leaves wanted assigned) link) → IfErr came (λ fault. FailsBy fault before faults) → GivesOver wanted came faults link
 over_of wanted came before faults link none ended acknowledges leaves cause = record {
   ends = ended;
   acknowledges = acknowledges;
-  leaves = subst (λ (n : ℕ). IfOk came (λ assigned. ¬ Rose n faults → WhereTold (Leaves wanted assigned) link)) none leaves;
+  leaves = subst (λ (n : ℕ). IfOk came (λ assigned. ¬ Rose n faults → WhereExact (Leaves wanted assigned) link)) none leaves;
   cause = subst (λ (n : ℕ). IfErr came (λ fault. FailsBy fault n faults)) none cause;
 }
 
@@ -192,8 +193,8 @@ given_on wanted text bus after came b law same fresh legal follows units over =
 pub given_sim : (wanted : IndAddr) (text : Units) (bus after : BusNow) (came : Outcome) → BeginsAs wanted (Ok text) bus → ((one other : Begun) → lines_of one ≡ lines_of other → one ≡ other) → lines_of after.run.begun ≡ lines_of bus.run.begun
     → IsFresh (start after.run) → IsLegal (start after.run) after.run.events → FollowsText after.run.begun.losses (start after.run) after.run.events
     → ((from : AddressWorld) (events : List AddressEvent) → told_of after.run ≡ Told from events → AlwaysKeepsUnits wanted from events) → bus.faults ≡ 0
-    → WhereTold (EndsSo wanted came) (story after.run) → WhereTold (λ places. AcknowledgesRightly (entries places)) (story after.run)
-    → IfOk came (λ assigned. ¬ Rose bus.faults after.faults → WhereTold (Leaves wanted assigned) (story after.run)) → IfErr came (λ fault. FailsBy fault bus.faults after.faults) → GivesOnBus wanted text after came
+    → WhereExact (EndsSo wanted came) (story after.run) → WhereTold (λ places. AcknowledgesRightly (entries places)) (story after.run)
+    → IfOk came (λ assigned. ¬ Rose bus.faults after.faults → WhereExact (Leaves wanted assigned) (story after.run)) → IfErr came (λ fault. FailsBy fault bus.faults after.faults) → GivesOnBus wanted text after came
 given_sim wanted text bus after came b law same fresh legal follows units none ended acknowledges leaves cause =
     given_on wanted text bus after came b law same fresh legal follows units (over_of wanted came bus.faults after.faults (story after.run) none ended acknowledges leaves cause)
 

@@ -7,6 +7,7 @@ use Rattle.std.specs.Option.{option_map}
 use Rattle.address_commission.specs.declared.assigned.Assigned.{Assigned}
 use Rattle.address_commission.specs.declared.assigned.AssignFault.{AssignFault}
 use Rattle.address_commission.specs.Ends.{EndsSo, FailsBy, Leaves}
+use Rattle.address_commission.specs.Exact.{WhereExact}
 use Rattle.address_sim.specs.Driven.{BusNow}
 use Rattle.address_sim.specs.Follows.{FollowsText}
 use Rattle.address_sim.specs.Told.{Begun, start, story, units_now}
@@ -64,12 +65,13 @@ assign_sim_words units wanted = option_map (λ (ia : IndAddr). let w : AssignSim
 abbrev pub Outcome : Type 0
 Outcome = Result Assigned AssignFault
 
--- By what the link told last, an answer and a fault are told exactly at their cause, and each tunnelling request is acknowledged before the next poll. Behind
--- an answer the channel is asked to end, once, unless a call of the link failed. A fault of the link is told only where its count rose, which was 0.
+-- By what the link told last, each tunnelling request is acknowledged before the next poll. Where its clock is exact, an answer and a fault are told exactly at
+-- their cause, and behind an answer the channel is asked to end, once, unless a call of the link failed. A fault of the link is told only where its count rose,
+-- which was 0.
 pub record GivesOver (wanted : IndAddr) (came : Outcome) (faults : ℕ) (last : Story) : Type 0 where
-  pub ends : WhereTold (EndsSo wanted came) last
+  pub ends : WhereExact (EndsSo wanted came) last
   pub acknowledges : WhereTold (λ places. AcknowledgesRightly (entries places)) last
-  pub leaves : IfOk came (λ assigned. ¬ Rose 0 faults → WhereTold (Leaves wanted assigned) last)
+  pub leaves : IfOk came (λ assigned. ¬ Rose 0 faults → WhereExact (Leaves wanted assigned) last)
   pub cause : IfErr came (λ fault. FailsBy fault 0 faults)
 
 -- this came of it, of which P holds; or memory is wanting, to go on or to tell it

@@ -5,9 +5,9 @@ use Rattle.line_model.specs.Record.{Placed, entries}
 use Rattle.tunnel_link.specs.Adds.{Growing}
 use Rattle.tunnel_link.specs.Alone.{Each, EndsNone}
 use Rattle.tunnel_link.specs.Goes.{GoesOn}
-use Rattle.tunnel_link.specs.Rights.{WhereTold}
 use Rattle.address_commission.specs.Going.{Going}
 use Rattle.address_commission.specs.Ends.{ClosesSo, LeavesSince, PaceKept}
+use Rattle.address_commission.specs.Exact.{WhereExact}
 use Rattle.address_commission.proofs.close.await_response.Given as goal
 
 -- no request is put, and the response is still awaited
@@ -17,7 +17,7 @@ invariant-loop g l = record {
   finite : (goal.iterator-loop g).is_finite l.iterator';
   closes : (wanted : Address) → Going (ClosesSo wanted) (g.L.Link.story l.fn.tunnel.link) (g.L.Link.story l.tunnel.link);
   paces : Going PaceKept (g.L.Link.story l.fn.tunnel.link) (g.L.Link.story l.tunnel.link);
-  awaits : (talk : List Placed) → newest_time (entries talk) ≡ l.fn.began → WhereTold (LeavesSince 64 talk) (g.L.Link.story l.fn.tunnel.link) → WhereTold (LeavesSince l.left talk) (g.L.Link.story l.tunnel.link);
+  awaits : (talk : List Placed) → newest_time (entries talk) ≡ l.fn.began → WhereExact (LeavesSince 64 talk) (g.L.Link.story l.fn.tunnel.link) → WhereExact (LeavesSince l.left talk) (g.L.Link.story l.tunnel.link);
   stands : l.tunnel.known.fault ≡ None;
   grows : GoesOn (g.L.Link.story l.fn.tunnel.link) (g.L.Link.story l.tunnel.link);
   alone : Growing (Each EndsNone) (g.L.Link.story l.fn.tunnel.link) (g.L.Link.story l.tunnel.link);

@@ -4,6 +4,7 @@ use Rattle.address_commission.specs.Going.{SameRounds}
 use Rattle.address_commission.specs.Ends.{TalkGoes}
 use Rattle.address_commission.proofs.Calls.{handed_on, told_ok, told_failed, poll_until, poll_talks, poll_ends}
 use Rattle.address_commission.proofs.Closing.{poll_closes, goes_same_rounds}
+use Rattle.address_commission.proofs.Exacts.{where_exact, told_too}
 use Rattle.address_commission.proofs.turn.poll.Goals as goal
 
 pub returns-in_err-came-clause-goes : goal.returns-in_err-came-clause-goes
@@ -16,7 +17,7 @@ pub returns-clause-goes : goal.returns-clause-goes
 returns-clause-goes g c =
     poll_ends c.args.longest_ms c.in_ok-came.came c.args.ear.now c.hears.result c.now-now.result c.taken-taken.result _ _ c.poll-polled.ensures.grows
     (subst (λ r. Growing (PollAdds r) (g.L.Link.story c.args.tunnel.now.link) (g.L.Link.story c.poll-polled.new.self.link)) (told_ok c.poll-polled.result c.in_ok-came.came c.in_ok-came.ensures.same) c.poll-polled.ensures.adds)
-    c.poll-polled.ensures.within (c.poll-polled.ensures.beats c.requires.acted) c.poll-polled.ensures.alone c.requires.awaits c.hears.ensures c.now-now.ensures.newest (λ places e. c.taken-taken.ensures ∙ (c.keeps.ensures.record places e).right.takes) c.ended.result c.ended.ensures.goes_on c.ended.ensures.ends
+    c.poll-polled.ensures.within (c.poll-polled.ensures.beats c.requires.acted) c.poll-polled.ensures.alone c.requires.awaits c.hears.ensures (where_exact _ _ c.now-now.ensures.newest) (λ places e. c.taken-taken.ensures ∙ (c.keeps.ensures.record places (told_too _ places e)).right.takes) c.ended.result c.ended.ensures.goes_on c.ended.ensures.ends
 
 pub returns-clause-same : goal.returns-clause-same
 returns-clause-same g c = goes_same_rounds _ _ (λ wanted. poll_closes c.poll-polled.result wanted _ _ c.poll-polled.ensures.grows c.poll-polled.ensures.adds)
