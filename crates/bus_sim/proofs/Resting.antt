@@ -1,7 +1,8 @@
 -- Where nothing is due at its end, a wait leaves a settled line settled: after each event the gateway has put what it could put, so time alone puts
 -- nothing.
-use Rattle.std.proofs.Common.{◌≡◌, ℕ, zero, suc, ◌+◌, ◌<◌, ◌≤◌, List, [], ◌∷◌, Option, Some, None, refl, ap, sym, subst, arith, add-zero}
+use Rattle.std.proofs.Common.{◌≡◌, ℕ, zero, suc, ◌+◌, ◌<◌, ◌≤◌, Bool, true, false, List, [], ◌∷◌, drop, Option, Some, None, refl, ap, sym, subst, arith, add-zero}
 use Rattle.knx_model.specs.declared.frames.cemi.Ldata.{Ldata}
+use Rattle.knx_model.specs.Cemi.{Written as cemi_octets}
 use Rattle.line_model.specs.Fresh.{IsFresh, HasNothingToSend, Settled}
 use Rattle.line_model.specs.Gateway.{Channel, Request, next_put}
 use Rattle.line_model.specs.Legal.{MayHappen}
@@ -23,7 +24,7 @@ one_is_out c r (frame ∷ frames) = refl
 
 has_put : (t : Tunnel) (o : Option (Channel × Ldata)) → next_put t.gateway.channel t.gateway.waiting ≡ o → puts_none (puts t o)
 has_put t None e = e
-has_put t (Some (c, frame)) e = one_is_out c _ _
+has_put t (Some (c, frame)) e = one_is_out c (record { frame = cemi_octets frame; repeated = false; sent = t.now }) (drop 1 t.gateway.waiting)
 
 pub rests : (start : World) (events : List Event) → IsFresh start → puts_none (replay start events).tunnel
 rests start [] fresh = ap (λ (t : Tunnel). next_put t.gateway.channel t.gateway.waiting) fresh.tunnel
@@ -76,3 +77,10 @@ module _ (old new : RunState) (ms : ℕ) (keeps : Keeps (seen old)) (settled : S
           by_left zero e = absurd (due (let a = none in let b = e in omega arith, no_time none))
           by_left (suc l) e = omega (arith, some (omega (arith, e)))
       by_time (suc k) e = omega (arith, e)
+
+pub passes_so : (old new : RunState) (ms left : ℕ) → ms ≡ left → Settled (mode (seen old)) (world old) → Went old (Pass ms) new → MayHappen (mode (seen old)) (world old) (Pass ms) → Settled (mode (seen old)) (world new) → PassesQuietly left old new
+passes_so old new ms left all settled went may ends =
+    subst (λ k. PassesQuietly k old new) all (record { passes = record { settled = settled; went = went; may = may }; ends = ends })
+
+pub untrue : (b : Bool) → b ≡ false → b ≡ true → ⊥
+untrue b none some = cc
