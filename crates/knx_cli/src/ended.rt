@@ -9,7 +9,7 @@ ghost use Rattle.knx_top.specs.Call.{AtMostOneRose, RunsRightly, files_of, touch
 ghost use Rattle.knx_top.specs.Command.{asked, Assign as AskedAssign, AssignSim as AskedAssignSim, Big as AskedBig, Check as AskedCheck, Decode as AskedDecode, Download as AskedDownload, Find as AskedFind, Gateway as AskedGateway, Migrate as AskedMigrate, Sim as AskedSim, Tables as AskedTables};
 ghost use Rattle.call_parts.specs.Ending.{Replies};
 ghost use Rattle.knx_top.specs.Ran.{FaultsOfLine};
-ghost use Rattle.knx_top.specs.Watched.{TellsWatcher, is_quiet};
+ghost use Rattle.knx_top.specs.Watched.{TellsOfRun, WhereRun};
 ghost use Rattle.line_model.specs.Watched.{watch_in};
 ghost use Rattle.knx_top.specs.commands.Assign.{AssignSimWords, AssignWords, RunsAssign, RunsAssignSim};
 ghost use Rattle.knx_top.specs.commands.Big.{BigWords, RunsMade};
@@ -84,7 +84,7 @@ pub fn status_of<
     ensures undialled { IfOk words.now (λ words. (touches (asked (map string_bytes words.items))).network ≡ false → dial.new ≡ dial.old) }
     ensures units { IfOk words.now (λ words. touches_units (asked (map string_bytes words.items)) ≡ false → units.new ≡ units.old) }
     ensures no_run { IfOk words.now (λ words. (touches (asked (map string_bytes words.items))).run ≡ false → last.new ≡ None) }
-    ensures watched { IfOk words.now (λ words. TellsWatcher (is_quiet (asked (map string_bytes words.items))) last.new (watch_in W.watch watch.old) (watch_in W.watch watch.new)) }
+    ensures watched { IfOk words.now (λ words. WhereRun (TellsOfRun (asked (map string_bytes words.items)) (F.now files.old).file) last.new (watch_in W.watch watch.old) (watch_in W.watch watch.new)) }
     ensures files { (name : List ℕ) → (F.now files.new).file name ≡ (F.now files.old).file name }
     ensures reads { IfOk words.now (λ words. (F.now files.new).reads ≤ (F.now files.old).reads + length (files_of (asked (map string_bytes words.items)))) }
     ensures faults { IfOk words.now (λ _. AtMostOneRose (F.now files.old).faults (F.now files.new).faults) }

@@ -8,7 +8,7 @@ ghost use Rattle.knx_top.specs.Call.{AtMostOneRose, Does, RunsRightly, files_of,
 ghost use Rattle.knx_top.specs.Command.{Assign as AskedAssign, AssignSim as AskedAssignSim, Big as AskedBig, Check as AskedCheck, Decode as AskedDecode, Download as AskedDownload, Find as AskedFind, Gateway as AskedGateway, Migrate as AskedMigrate, Sim as AskedSim, Tables as AskedTables, asked, command_of};
 ghost use Rattle.call_parts.specs.Ending.{Is, Replies, report_in};
 ghost use Rattle.knx_top.specs.Ran.{FaultsOfLine};
-ghost use Rattle.knx_top.specs.Watched.{TellsWatcher, is_quiet};
+ghost use Rattle.knx_top.specs.Watched.{TellsOfRun, WhereRun};
 ghost use Rattle.line_model.specs.Watched.{watch_in};
 ghost use Rattle.knx_top.specs.commands.Assign.{AssignSimWords, AssignWords, RunsAssign, RunsAssignSim};
 ghost use Rattle.knx_top.specs.commands.Big.{BigWords, RunsMade};
@@ -58,7 +58,7 @@ fn run<R: Threads + Wait + Sync, F: Files, D: Dialer, G: Gate + Sync, W: Watcher
     ensures stays { (other : List ℕ) → (F.now files.new).file other ≡ (F.now files.old).file other }
     ensures reads { (F.now files.new).reads ≤ (F.now files.old).reads + length (files_of (Some (command_of command.entry))) }
     ensures unwatched { (touches (Some (command_of command.entry))).run ≡ false → watch.new ≡ watch.old }
-    ensures watched { (touches (Some (command_of command.entry))).run ≡ true → TellsWatcher (is_quiet (Some (command_of command.entry))) (report_in result) (watch_in W.watch watch.old) (watch_in W.watch watch.new) }
+    ensures watched { (touches (Some (command_of command.entry))).run ≡ true → WhereRun (TellsOfRun (Some (command_of command.entry)) (F.now files.old).file) (report_in result) (watch_in W.watch watch.old) (watch_in W.watch watch.new) }
 {
     match command {
         Command::Check(names) => check::call(rt, alloc, names, files),
@@ -104,7 +104,7 @@ fn answer<
     ensures reads { (F.now files.new).reads ≤ (F.now files.old).reads + length (files_of (asked (map string_bytes words.now))) }
     ensures written { (K.now out.new).writes ≡ one_more (K.now out.old).writes }
     ensures unwatched { (touches (asked (map string_bytes words.now))).run ≡ false → watch.new ≡ watch.old }
-    ensures watched { (touches (asked (map string_bytes words.now))).run ≡ true → TellsWatcher (is_quiet (asked (map string_bytes words.now))) last.new (watch_in W.watch watch.old) (watch_in W.watch watch.new) }
+    ensures watched { (touches (asked (map string_bytes words.now))).run ≡ true → WhereRun (TellsOfRun (asked (map string_bytes words.now)) (F.now files.old).file) last.new (watch_in W.watch watch.old) (watch_in W.watch watch.new) }
 {
     match asked(words) {
         Some(command) => {
@@ -169,9 +169,9 @@ pub fn knx<
     ensures undialled { (touches (asked (map string_bytes words.now))).network ≡ false → dial.new ≡ dial.old }
     ensures units { touches_units (asked (map string_bytes words.now)) ≡ false → units.new ≡ units.old }
     ensures no_run { (touches (asked (map string_bytes words.now))).run ≡ false → last.new ≡ None }
-    // who watches is told the log of the run, each entry once, in order and in the turn in which it is made; of a job that a worker holds then, at most once a second,
-    // how many of its operations are over, of how many; and nothing else, nothing where no run was begun, and nothing where the words ask for quiet
-    ensures watched { TellsWatcher (is_quiet (asked (map string_bytes words.now))) last.new (watch_in W.watch watch.old) (watch_in W.watch watch.new) }
+    // who watches is told the log of the run, each entry once and in order; of a job that a worker holds by the entries told before, at most once a second, its device,
+    // and how many of its operations are over, of how many; and nothing else, nothing where no run was begun, and nothing where the words ask for quiet
+    ensures watched { WhereRun (TellsOfRun (asked (map string_bytes words.now)) (F.now files.old).file) last.new (watch_in W.watch watch.old) (watch_in W.watch watch.new) }
     // what the files tell stays, there are at most as many reads as the words name files, the count of one file rose at most, and there is just one write
     ensures files { (name : List ℕ) → (F.now files.new).file name ≡ (F.now files.old).file name }
     ensures reads { (F.now files.new).reads ≤ (F.now files.old).reads + length (files_of (asked (map string_bytes words.now))) }

@@ -1,9 +1,10 @@
 //! A run that is watched, or is quiet.
 
-ghost use Rattle.std.specs.Prelude.{◌≡◌, ◌≤◌, ◌<◌, Some, false, length, true};
+ghost use Rattle.std.specs.Prelude.{◌≡◌, ◌≤◌, ◌<◌, false, length, map, true};
 ghost use Rattle.std.specs.List.{AllByRecursion};
 ghost use Rattle.hub_core.specs.Commissioned.{Commissioned};
 ghost use Rattle.hub_work.specs.Requests.{IsTurnInRange};
+ghost use Rattle.hub_work.specs.declared.job.HubJob.{HubJob as JobOfHub};
 ghost use Rattle.line_model.specs.LinkStory.{IsNewLink};
 ghost use Rattle.line_model.specs.Watched.{watch_in};
 ghost use Rattle.knx_top.specs.Watched.{TellsWatcher};
@@ -63,7 +64,7 @@ pub fn commission<R: Threads + Wait + Sync, L: Link + Send, G: Gate + Sync, W: W
     requires sendable { AllByRecursion IsTurnInRange run.groups }
     requires new { IsNewLink (L.story run.link) }
     ensures commissioned { Commissioned L.story L.place L.script L.faults run.workers run.jobs run.groups run.link result.0 result.1 }
-    ensures watched { TellsWatcher run.quiet (Some result.1) (watch_in W.watch watch.old) (watch_in W.watch watch.new) }
+    ensures watched { TellsWatcher (map (λ (job : JobOfHub). job.device) run.jobs) run.quiet result.1 (watch_in W.watch watch.old) (watch_in W.watch watch.new) }
 {
     let Run {
         jobs,

@@ -1,12 +1,13 @@
 //! `big N START`: a run of `sim` over the line of N devices that a number makes, told in one line.
 
-ghost use Rattle.std.specs.Prelude.{◌≡◌, ◌≢◌, ◌≤◌, Err, IfErr, IfOk, false, map, string_bytes};
+ghost use Rattle.std.specs.Prelude.{◌≡◌, ◌≢◌, ◌≤◌, Err, IfErr, IfOk, map, string_bytes};
 ghost use Rattle.call_words.specs.declared.stop.Stop.TheVariants.{NoMemory as OutOfMemory};
 ghost use Rattle.knx_model.specs.Counts.{counts_of};
 ghost use Rattle.knx_top.specs.Begun.{OrderFor};
 ghost use Rattle.call_parts.specs.Ending.{Is, report_in};
 ghost use Rattle.knx_top.specs.Ran.{FaultsOfLine};
-ghost use Rattle.knx_top.specs.Watched.{TellsWatcher};
+ghost use Rattle.call_parts.specs.Options.{no_options};
+ghost use Rattle.knx_top.specs.Watched.{TellsOfJobs, WhereRun};
 ghost use Rattle.line_model.specs.Watched.{watch_in};
 ghost use Rattle.knx_top.specs.commands.Big.{RunsMade, big_words, judged_made, made, most_devices, start_value, summed};
 
@@ -116,7 +117,7 @@ pub fn call<R: Threads + Wait + Sync, G: Gate + Sync, W: Watcher + Send>(
 ) -> End
     ensures told { RunsMade numbers.now sim.old (record { line = sim.new; report = report_in result }) (Is result) }
     ensures link { FaultsOfLine (report_in result) sim.new }
-    ensures watched { TellsWatcher false (report_in result) (watch_in W.watch watch.old) (watch_in W.watch watch.new) }
+    ensures watched { WhereRun (TellsOfJobs no_options (made numbers.now)) (report_in result) (watch_in W.watch watch.old) (watch_in W.watch watch.new) }
 {
     each_project_is_checked();
     match judge(rt, alloc, numbers) {

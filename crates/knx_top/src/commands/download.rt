@@ -4,6 +4,7 @@ ghost use Rattle.std.specs.Prelude.{◌≡◌, ◌≢◌, ◌≤◌, ◌<◌, �
 ghost use Rattle.std.specs.List.{AllByRecursion};
 ghost use Rattle.std.specs.Option.{option_map};
 ghost use Rattle.call_words.specs.declared.stop.Stop.TheVariants.{NoMemory as OutOfMemory};
+ghost use Rattle.hub_work.specs.declared.job.HubJob.{HubJob as JobOfHub};
 ghost use Rattle.line_model.specs.Headline.{IsGoodJob};
 ghost use Rattle.line_model.specs.LinkStory.{IsNewLink};
 ghost use Rattle.line_model.specs.Watched.{watch_in};
@@ -12,9 +13,10 @@ ghost use Rattle.call_parts.specs.Ending.{Is, report_in};
 ghost use Rattle.call_parts.specs.Jobs.{seen_job};
 ghost use Rattle.call_parts.specs.Names.{address_of, options_of};
 ghost use Rattle.call_parts.specs.Options.{most_jobs, workers_of};
-ghost use Rattle.knx_top.specs.Watched.{TellsWatcher};
-ghost use Rattle.knx_top.specs.commands.Download.{Dials, DialsOr, Download, IsReady, IsReadyFor, ReadyFor, RunsDialled, download_words, download_words_of, files_of_download, judged_download, project_named, with_project};
-ghost use Rattle.call_parts.specs.Project.{project_words_of};
+ghost use Rattle.knx_top.specs.Command.{Download as AskedDownload};
+ghost use Rattle.knx_top.specs.Watched.{TellsOfRun, TellsTested, TellsWatcher, WhereRun};
+ghost use Rattle.knx_top.specs.commands.Download.{Dials, DialsOr, Download, IsReady, IsReadyFor, ReadyFor, RunsDialled, download_tests, download_words, download_words_of, files_of_download, judged_download, project_named, with_project};
+ghost use Rattle.call_parts.specs.Project.{project_told, project_words_of};
 
 use crate::watched::{Run, commission};
 use call_parts::{
@@ -145,7 +147,7 @@ fn run<R: Threads + Wait + Sync, D: Dialer, G: Gate + Sync, W: Watcher + Send>(
     ensures given { (D.now dial.new).given ≡ (D.now dial.old).given }
     ensures dials { (D.now dial.new).dials ≡ (D.now dial.old).dials }
     ensures cause { HasItsCause result (D.now dial.old).faults (D.now dial.new).faults }
-    ensures watched { TellsWatcher options.now.quiet (Some result) (watch_in W.watch watch.old) (watch_in W.watch watch.new) }
+    ensures watched { TellsWatcher (map (λ (job : JobOfHub). job.device) plans) options.now.quiet result (watch_in W.watch watch.old) (watch_in W.watch watch.new) }
 {
     let run = Run {
         jobs: plans,
@@ -171,7 +173,7 @@ fn dial_and_run<R: Threads + Wait + Sync, D: Dialer, G: Gate + Sync, W: Watcher 
 ) -> End
     requires few { length ready.plans < 4294967296 }
     requires good { AllByRecursion IsGoodJob (map seen_job ready.plans) }
-    ensures watched { TellsWatcher names.now.options.quiet (report_in result) (watch_in W.watch watch.old) (watch_in W.watch watch.new) }
+    ensures watched { WhereRun (TellsWatcher (map (λ (job : JobOfHub). job.device) ready.plans) names.now.options.quiet) (report_in result) (watch_in W.watch watch.old) (watch_in W.watch watch.new) }
     ensures dials { (d : Download) → IsReadyFor d ready → d.at ≡ address_of names.now.at → d.options ≡ options_of names.now.options → Dials d (D.now dial.old) (D.now dial.new) result }
 {
     match dial.dial(names.at.host, names.at.port) {
@@ -208,7 +210,7 @@ fn download<R: Threads + Wait + Sync, D: Dialer, G: Gate + Sync, W: Watcher + Se
     gate: &G,
     watch: &mut Option<W>,
 ) -> End
-    ensures watched { TellsWatcher names.now.options.quiet (report_in result) (watch_in W.watch watch.old) (watch_in W.watch watch.new) }
+    ensures watched { WhereRun (TellsTested (download_tests (download_words_of names.now) texts.now) (options_of names.now.options) (project_told texts.now)) (report_in result) (watch_in W.watch watch.old) (watch_in W.watch watch.new) }
     ensures dials { DialsOr (judged_download (download_words_of names.now) texts.now) (D.now dial.old) (D.now dial.new) result }
 {
     match judge(rt, alloc, names, texts) {
@@ -230,7 +232,7 @@ pub fn call<R: Threads + Wait + Sync, F: Files, D: Dialer, G: Gate + Sync, W: Wa
     ensures told { RunsDialled (download_words_of names.now) (F.now files.old) (F.now files.new) (D.now dial.old) (D.now dial.new) (report_in result) (Is result) }
     ensures stays { (other : Seq ℕ) → (F.now files.new).file other ≡ (F.now files.old).file other }
     ensures reads { (F.now files.new).reads ≤ (F.now files.old).reads + length (files_of_download (download_words_of names.now)) }
-    ensures watched { TellsWatcher names.now.options.quiet (report_in result) (watch_in W.watch watch.old) (watch_in W.watch watch.new) }
+    ensures watched { WhereRun (TellsOfRun (Some (AskedDownload (download_words_of names.now))) (F.now files.old).file) (report_in result) (watch_in W.watch watch.old) (watch_in W.watch watch.new) }
 {
     let texts = read_project_texts(alloc, files, names.project());
     download(rt, alloc, names, &texts, dial, gate, watch)

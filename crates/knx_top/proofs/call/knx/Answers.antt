@@ -72,4 +72,4 @@ returns-clause-run g c =
     (answers_with (g.K.Sink.now c.args.out.now) (g.K.Sink.now c.answer.new.out) c.answer.result) c.answer.ensures.does
 
 pub returns-clause-watched : goal.returns-clause-watched
-returns-clause-watched g c = watches_of _ _ _ _ (no_run_of _ _ _ _ c.answer.ensures.does) (λ none. ap (watch_in g.W.Watcher.watch) (c.answer.ensures.unwatched none)) c.answer.ensures.watched
+returns-clause-watched g c = watches_of _ (g.F.Files.now c.args.files.now).file _ _ _ (no_run_of _ _ _ _ c.answer.ensures.does) (λ none. ap (watch_in g.W.Watcher.watch) (c.answer.ensures.unwatched none)) c.answer.ensures.watched

@@ -1,11 +1,12 @@
 //! `sim NEW OLD SCRIPT [catalogue=F] [log] [quiet] [workers=N]` and jobs: a run over the simulated line.
 
-ghost use Rattle.std.specs.Prelude.{◌≡◌, ◌≤◌, ◌+◌, ℕ, List, length, map, string_bytes};
+ghost use Rattle.std.specs.Prelude.{◌≡◌, ◌≤◌, ◌+◌, ℕ, List, Some, length, map, string_bytes};
 ghost use Rattle.std.specs.Option.{option_map};
 ghost use Rattle.call_parts.specs.Ending.{Is, report_in};
 ghost use Rattle.call_parts.specs.Input.{OnlyRose};
 ghost use Rattle.knx_top.specs.Ran.{FaultsOfLine};
-ghost use Rattle.knx_top.specs.Watched.{TellsWatcher};
+ghost use Rattle.knx_top.specs.Command.{Sim as AskedSim};
+ghost use Rattle.knx_top.specs.Watched.{TellsOfRun, WhereRun};
 ghost use Rattle.line_model.specs.Watched.{watch_in};
 ghost use Rattle.knx_top.specs.commands.Sim.{RunsScript, SimIsRead, failed_of_sim, files_of_sim, sim_words, sim_words_of};
 
@@ -86,7 +87,7 @@ pub fn call<R: Threads + Wait + Sync, F: Files, G: Gate + Sync, W: Watcher + Sen
 ) -> End
     ensures told { RunsScript (sim_words_of names.now) (F.now files.old) (F.now files.new) sim.old (record { line = sim.new; report = report_in result }) (Is result) }
     ensures link { FaultsOfLine (report_in result) sim.new }
-    ensures watched { TellsWatcher names.now.options.quiet (report_in result) (watch_in W.watch watch.old) (watch_in W.watch watch.new) }
+    ensures watched { WhereRun (TellsOfRun (Some (AskedSim (sim_words_of names.now))) (F.now files.old).file) (report_in result) (watch_in W.watch watch.old) (watch_in W.watch watch.new) }
     ensures stays { (other : List ℕ) → (F.now files.new).file other ≡ (F.now files.old).file other }
     ensures reads { (F.now files.new).reads ≤ (F.now files.old).reads + length (files_of_sim (sim_words_of names.now)) }
 {

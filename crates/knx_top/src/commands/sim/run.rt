@@ -7,15 +7,17 @@ ghost use Rattle.bus_sim.specs.RunNow.{world};
 ghost use Rattle.knx_model.specs.declared.address.IndAddr.{IndAddr as Address};
 ghost use Rattle.knx_model.specs.declared.config.Image.{Image as Compiled};
 ghost use Rattle.hub_work.specs.Requests.{IsTurnInRange};
+ghost use Rattle.hub_work.specs.declared.job.HubJob.{HubJob as JobOfHub};
 ghost use Rattle.line_model.specs.Headline.{IsGoodJob};
 ghost use Rattle.knx_top.specs.Begun.{IsOrder};
 ghost use Rattle.call_parts.specs.Ending.{report_in};
 ghost use Rattle.call_parts.specs.Jobs.{seen_job};
 ghost use Rattle.call_parts.specs.Names.{options_of};
+ghost use Rattle.call_parts.specs.Stops.{project_in};
 ghost use Rattle.knx_top.specs.Ran.{Commission, FaultsOfLine, HasThreeTries};
-ghost use Rattle.knx_top.specs.Watched.{TellsWatcher};
+ghost use Rattle.knx_top.specs.Watched.{TellsTested, TellsWatcher, WhereRun};
 ghost use Rattle.line_model.specs.Watched.{watch_in};
-ghost use Rattle.knx_top.specs.commands.Sim.{Comes, Runs, ShowsRun, judged, sim_words_of};
+ghost use Rattle.knx_top.specs.commands.Sim.{Comes, Runs, ShowsRun, judged, sim_tests, sim_words_of};
 
 use crate::commands::sim::judge::{Order, judge};
 use crate::commands::sim::{SimNames, SimTexts};
@@ -76,7 +78,7 @@ pub fn run<R: Threads + Wait + Sync, G: Gate + Sync, W: Watcher + Send>(
     requires devices { All (λ (d : Address × Option Compiled). IsSome ((world order.line.run).devices d.0.raw)) order.devices }
     ensures runs { (c : Commission) → IsOrder c order → c.options ≡ options_of options.now → Runs c sim.old sim.new result }
     ensures link { FaultsOfLine (report_in result) sim.new }
-    ensures watched { TellsWatcher options.now.quiet (report_in result) (watch_in W.watch watch.old) (watch_in W.watch watch.new) }
+    ensures watched { WhereRun (TellsWatcher (map (λ (job : JobOfHub). job.device) order.plans) options.now.quiet) (report_in result) (watch_in W.watch watch.old) (watch_in W.watch watch.new) }
 {
     let Order {
         line,
@@ -120,7 +122,7 @@ pub fn commission<R: Threads + Wait + Sync, G: Gate + Sync, W: Watcher + Send>(
 ) -> End
     ensures comes { Comes (judged (sim_words_of names.now) texts.now) sim.old sim.new result }
     ensures link { FaultsOfLine (report_in result) sim.new }
-    ensures watched { TellsWatcher names.now.options.quiet (report_in result) (watch_in W.watch watch.old) (watch_in W.watch watch.new) }
+    ensures watched { WhereRun (TellsTested (sim_tests (sim_words_of names.now) texts.now) (options_of names.now.options) (project_in texts.now.catalogue texts.now.new)) (report_in result) (watch_in W.watch watch.old) (watch_in W.watch watch.new) }
 {
     match judge(rt, alloc, names, texts) {
         Ok(order) => run(rt, alloc, order, &names.options, sim, gate, watch),

@@ -1,9 +1,9 @@
 use Rattle.std.proofs.Common.{Bool, [], refl, sym, ap, subst}
 use Rattle.line_model.specs.Watched.{watch_in}
 use Rattle.call_parts.specs.Ending.{report_in}
-use Rattle.call_parts.specs.Options.{SimOptions}
-use Rattle.knx_top.specs.Watched.{TellsWatcher}
-use Rattle.knx_top.proofs.Watches.{tells_summed}
+use Rattle.call_parts.specs.Options.{SimOptions, no_options}
+use Rattle.knx_top.specs.Watched.{TellsOfJobs, TellsWatcher, WhereRun}
+use Rattle.knx_top.proofs.Watches.{devices_in, made_so, tells_summed}
 use Rattle.knx_model.specs.Counts.{counts_of}
 use Rattle.knx_top.proofs.Present.{devices_there}
 use Rattle.knx_top.proofs.commands.Bigs.{order_made, runs_made, stops_wanting}
@@ -30,4 +30,9 @@ returns-in-Err-clause-told g c =
 
 pub returns-in-Ok-clause-watched : goal.returns-in-Ok-clause-watched
 returns-in-Ok-clause-watched g c =
-    tells_summed _ _ c.in-Ok.counts c.run-end.result c.summed.result c.summed.ensures (subst (λ (quiet : Bool). TellsWatcher quiet (report_in c.run-end.result) (watch_in g.W.Watcher.watch c.args.watch.now) (watch_in g.W.Watcher.watch c.run-end.new.watch)) (ap (λ (o : SimOptions). o.quiet) c.none.ensures) c.run-end.ensures.watched)
+    let words = c.args.numbers.now in
+    let old = watch_in g.W.Watcher.watch c.args.watch.now in
+    let new = watch_in g.W.Watcher.watch c.run-end.new.watch in
+    tells_summed (TellsOfJobs no_options (made words)) _ _ c.in-Ok.counts c.run-end.result c.summed.result c.summed.ensures
+    (made_so words c.in-Ok.order old new (order_made words c.in-Ok.order (c.each_project_is_checked.ensures.checked words.devices words.start [] c.judge.ensures.few).sound c.in-Ok.ensures.ok) (report_in c.run-end.result)
+    (subst (λ (quiet : Bool). WhereRun (TellsWatcher (devices_in c.in-Ok.order.plans) quiet) (report_in c.run-end.result) old new) (ap (λ (o : SimOptions). o.quiet) c.none.ensures) c.run-end.ensures.watched))

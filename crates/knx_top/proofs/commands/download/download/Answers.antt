@@ -1,4 +1,6 @@
+use Rattle.call_parts.specs.Ending.{report_in}
 use Rattle.knx_top.specs.commands.Download.{download_words_of}
+use Rattle.knx_top.proofs.Watches.{download_tested}
 use Rattle.knx_top.proofs.commands.Downloads.{dialled_run, dialled_stop, of_ready}
 use Rattle.knx_top.proofs.commands.download.download.Goals as goal
 
@@ -13,3 +15,6 @@ returns-in-Ok-clause-dials g c = dialled_run (download_words_of c.args.names.now
 
 pub returns-in-Err-clause-dials : goal.returns-in-Err-clause-dials
 returns-in-Err-clause-dials g c = dialled_stop _ _ _ c.in-Err.ensures.err
+
+pub returns-in-Ok-clause-watched : goal.returns-in-Ok-clause-watched
+returns-in-Ok-clause-watched g c = download_tested (download_words_of c.args.names.now) c.args.texts.now c.in-Ok.ready _ _ c.in-Ok.ensures.ok (report_in c.dial_and_run.result) c.dial_and_run.ensures.watched

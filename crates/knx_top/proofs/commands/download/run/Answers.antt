@@ -10,3 +10,6 @@ returns-clause-told g c = rw c.hang.ensures.told
 
 pub returns-clause-cause : goal.returns-clause-cause
 returns-clause-cause g c = caused c.commission-line.result.1 _ _ _ _ c.requires.sound c.commission-line.ensures.commissioned.cause c.hang.ensures.count
+
+pub returns-clause-watched : goal.returns-clause-watched
+returns-clause-watched g c = c.commission-line.ensures.watched

@@ -1,5 +1,7 @@
 use Rattle.std.proofs.Common.{arith}
+use Rattle.call_parts.specs.Ending.{report_in}
 use Rattle.knx_top.proofs.Present.{devices_there}
+use Rattle.knx_top.proofs.Watches.{sim_tested}
 use Rattle.knx_top.specs.commands.Sim.{sim_words_of}
 use Rattle.knx_top.proofs.commands.Sims.{decided_run, decided_stop, of_order}
 use Rattle.knx_top.proofs.commands.sim.run.commission.Goals as goal
@@ -33,3 +35,6 @@ returns-in-Ok-clause-comes g c = decided_run (sim_words_of c.args.names.now) c.a
 
 pub returns-in-Err-clause-comes : goal.returns-in-Err-clause-comes
 returns-in-Err-clause-comes g c = decided_stop _ _ _ c.in-Err.ensures.err
+
+pub returns-in-Ok-clause-watched : goal.returns-in-Ok-clause-watched
+returns-in-Ok-clause-watched g c = sim_tested (sim_words_of c.args.names.now) c.args.texts.now c.in-Ok.order _ _ c.in-Ok.ensures.ok (report_in c.run.result) c.run.ensures.watched

@@ -13,7 +13,8 @@ use Rattle.bus_sim.proofs.New.{new_line}
 use Rattle.knx_top.proofs.Driven.{driven, faults_last, jobs_seen, still_one}
 use Rattle.knx_top.proofs.Shows.{fault_so, runs_so, still_there}
 use Rattle.knx_top.specs.commands.Sim.{ShowsRun}
-use Rattle.knx_top.proofs.Watches.{tells_shown}
+use Rattle.knx_top.specs.Watched.{TellsWatcher}
+use Rattle.knx_top.proofs.Watches.{devices_in, tells_shown}
 use Rattle.knx_top.proofs.commands.sim.run.run.Goals as goal
 
 pub commission-line-requires-clause-new : goal.commission-line-requires-clause-new
@@ -49,4 +50,4 @@ returns-clause-link g c =
     fault_so line.run report c.args.order.jobs c.len-turn_count.result c.as_slice.result.now c.args.options.now.log c.end_of_run.result line c.end_of_run.ensures.shows cause
 
 pub returns-clause-watched : goal.returns-clause-watched
-returns-clause-watched g c = tells_shown c.commission-line.result.0.run c.commission-line.result.1 c.args.order.jobs c.len-turn_count.result c.as_slice.result.now c.args.options.now.log c.args.options.now.quiet _ _ c.end_of_run.result c.end_of_run.ensures.shows c.commission-line.ensures.watched
+returns-clause-watched g c = tells_shown c.commission-line.result.0.run c.commission-line.result.1 c.args.order.jobs c.len-turn_count.result c.as_slice.result.now c.args.options.now.log (TellsWatcher (devices_in c.args.order.plans) c.args.options.now.quiet) _ _ c.end_of_run.result c.end_of_run.ensures.shows c.commission-line.ensures.watched
