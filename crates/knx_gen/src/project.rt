@@ -76,7 +76,6 @@ fn put_objects(lines: &mut List<What<'_>>, device: IndAddr) -> Result<(), NoMemo
 
 /// Appends the links of one object, which begin with this group.
 fn put_links(
-    alloc: Global,
     lines: &mut List<What<'_>>,
     device: IndAddr,
     object: u8,
@@ -90,7 +89,7 @@ fn put_links(
         lines.push(What::Link {
             device,
             object,
-            groups: Groups::one(alloc, group),
+            groups: Groups::one(group),
         })?;
     }
     Ok(())
@@ -98,7 +97,6 @@ fn put_links(
 
 /// Appends the links of a device's objects, each by the next number.
 fn put_object_links(
-    alloc: Global,
     lines: &mut List<What<'_>>,
     numbers: &mut Numbers,
     device: IndAddr,
@@ -108,14 +106,13 @@ fn put_object_links(
 {
     for place in 0..OBJECTS {
         let first = 1 + numbers.draw() % FIRST_GROUPS;
-        put_links(alloc, lines, device, place + 1, first as u16)?;
+        put_links(lines, device, place + 1, first as u16)?;
     }
     Ok(())
 }
 
 /// Appends the lines of a device, whose objects take the next eight numbers.
 fn put_device(
-    alloc: Global,
     lines: &mut List<What<'_>>,
     numbers: &mut Numbers,
     device: IndAddr,
@@ -126,22 +123,17 @@ fn put_device(
     let model = inline_model();
     lines.push(What::Device { device, model })?;
     put_objects(lines, device)?;
-    put_object_links(alloc, lines, numbers, device)
+    put_object_links(lines, numbers, device)
 }
 
 /// Appends the lines of the devices 1.1.1 to 1.1.n.
-fn put_devices(
-    alloc: Global,
-    lines: &mut List<What<'_>>,
-    n: u16,
-    start: u64,
-) -> Result<(), NoMemory>
+fn put_devices(lines: &mut List<What<'_>>, n: u16, start: u64) -> Result<(), NoMemory>
     requires { n ≤ 254 }
     ensures { OnOk result (lines.new ≡ lines.old ++ all_device_lines start n) }
 {
     let mut numbers = Numbers { state: start };
     for before in 0..n {
-        put_device(alloc, lines, &mut numbers, device_at(before + 1))?;
+        put_device(lines, &mut numbers, device_at(before + 1))?;
     }
     Ok(())
 }
@@ -172,7 +164,7 @@ pub fn project_from<'a>(
 {
     let mut lines = List::new(alloc);
     put_groups(&mut lines, names)?;
-    put_devices(alloc, &mut lines, n, start)?;
+    put_devices(&mut lines, n, start)?;
     let statements = numbered(alloc, lines)?;
     Ok(Project { statements })
 }

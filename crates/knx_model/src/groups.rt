@@ -12,28 +12,28 @@ use std::slice;
 #[derive(Drop)]
 pub struct Groups {
     single: GroupAddr,
-    /// All of them, where they are several, else none.
-    several: Vec<GroupAddr>,
+    /// All of them, where they are several; in a box, since nearly all lines have one.
+    several: Option<Box<Vec<GroupAddr>>>,
 }
 
 impl Model for Groups {
-    ghost use Rattle.std.specs.Prelude.{List as Seq};
+    ghost use Rattle.std.specs.Prelude.{List as Seq, option_map};
     ghost use Rattle.knx_model.specs.declared.address.GroupAddr.{GroupAddr as Group};
     ghost use Rattle.knx_model.specs.Groups.{groups_kept};
 
     ghost Value = { Seq Group };
 
-    ghost view = { λ g. groups_kept g.single g.several.items };
+    ghost view = { λ g. groups_kept g.single (option_map (λ several. several.value.items) g.several) };
 }
 
 impl Groups {
-    /// One group. It takes no memory.
-    pub fn one(alloc: Global, group: GroupAddr) -> Groups
+    /// One group.
+    pub fn one(group: GroupAddr) -> Groups
         ensures { result ≡ group ∷ [] }
     {
         Groups {
             single: group,
-            several: Vec::new(alloc),
+            several: None,
         }
     }
 
@@ -41,24 +41,24 @@ impl Groups {
     pub fn as_slice(&self) -> &[GroupAddr]
         ensures { result.now ≡ self.now }
     {
-        if self.several.is_empty() {
-            slice::from_ref(&self.single)
-        } else {
-            self.several.as_slice()
+        match &self.several {
+            Some(several) => several.as_slice(),
+            None => slice::from_ref(&self.single),
         }
     }
 
     /// Appends a group. At `Err` nothing has changed.
-    pub fn push(&mut self, group: GroupAddr) -> Result<(), NoMemory>
+    pub fn push(&mut self, alloc: Global, group: GroupAddr) -> Result<(), NoMemory>
         ensures ok { OnOk result (self.new ≡ self.old ++ group ∷ []) }
         ensures err { OnErr result (self.new ≡ self.old) }
     {
-        if self.several.is_empty() {
-            let both = [self.single, group];
-            self.several.extend_from_slice(&both)?;
-            return Ok(());
+        match &mut self.several {
+            Some(several) => several.push(group)?,
+            None => {
+                let both = vec![in alloc; self.single, group]?;
+                self.several = Some(Box::new(alloc, both)?);
+            }
         }
-        self.several.push(group)?;
         Ok(())
     }
 }

@@ -93,13 +93,13 @@ pub fn groups_in(alloc: Global, version: TextVersion, all: &[u8]) -> Result<Grou
     ensures fits { IfOk result (λ groups. IsTrue (are_groups version groups)) }
 {
     let (first, mut rest) = group_field_by(version, all)?;
-    let mut groups = Groups::one(alloc, first);
+    let mut groups = Groups::one(first);
     while let Some((word, after)) = first_word(rest) {
         if groups.as_slice().len() >= most_groups(version) {
             return Err(Why::ExtraWord);
         }
         let group = group_by(version, word).ok_or(Why::BadAddress)?;
-        groups.push(group)?;
+        groups.push(alloc, group)?;
         rest = after;
     }
     Ok(groups)

@@ -154,7 +154,6 @@ fn put<'a>(out: &mut List<Statement<'a>>, what: What<'a>) -> Result<(), NoMemory
 
 /// Appends a `link` line for each of the groups.
 fn put_links(
-    alloc: Global,
     out: &mut List<Statement<'_>>,
     device: IndAddr,
     object: u8,
@@ -168,7 +167,7 @@ fn put_links(
             What::Link {
                 device,
                 object,
-                groups: Groups::one(alloc, *group),
+                groups: Groups::one(*group),
             },
         )?;
     }
@@ -184,11 +183,7 @@ fn again<'a>(name: &Name<'a>) -> Name<'a>
 }
 
 /// Appends what a statement becomes.
-fn put_kept<'a>(
-    alloc: Global,
-    out: &mut List<Statement<'a>>,
-    what: &What<'a>,
-) -> Result<(), NoMemory>
+fn put_kept<'a>(out: &mut List<Statement<'a>>, what: &What<'a>) -> Result<(), NoMemory>
     requires { (version : Version) × IsTrue (is_spellable version what.now) }
     ensures { OnOk result (out.new ≡ numbered_after out.old (one_by_one what.now)) }
 {
@@ -227,7 +222,7 @@ fn put_kept<'a>(
             device,
             object,
             groups,
-        } => put_links(alloc, out, *device, *object, groups.as_slice()),
+        } => put_links(out, *device, *object, groups.as_slice()),
         What::Send { .. } => Ok(()),
         What::Flags {
             device,
@@ -259,7 +254,6 @@ fn put_kept<'a>(
 /// Appends what all statements become.
 #[tactic(auto, unfolding(crate::specs::Migrated::kept))]
 fn put_all_kept<'a>(
-    alloc: Global,
     out: &mut List<Statement<'a>>,
     statements: &[Statement<'a>],
 ) -> Result<(), NoMemory>
@@ -267,7 +261,7 @@ fn put_all_kept<'a>(
     ensures { OnOk result (out.new ≡ numbered_after out.old (kept statements.now)) }
 {
     for statement in statements {
-        put_kept(alloc, out, &statement.what)?;
+        put_kept(out, &statement.what)?;
     }
     Ok(())
 }
@@ -321,7 +315,7 @@ fn made<'a>(alloc: Global, statements: &[Statement<'a>]) -> Result<List<Statemen
     let last = lasts(alloc, statements)?;
     let mut out = List::new(alloc);
     put(&mut out, What::Version)?;
-    put_all_kept(alloc, &mut out, statements)?;
+    put_all_kept(&mut out, statements)?;
     put_sends(&mut out, &first, &last)?;
     Ok(out)
 }

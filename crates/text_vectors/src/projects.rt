@@ -56,7 +56,7 @@ fn statements_in_ascending_lines_make_a_project(rt: HostRuntime) -> Result<(), F
         let link = What::Link {
             device,
             object: 1,
-            groups: Groups::one(rt.alloc(), GroupAddr { raw: 1 }),
+            groups: Groups::one(GroupAddr { raw: 1 }),
         };
         for (line, what) in [(first, flags), (second, link)] {
             let statement = Statement { line, what };
@@ -69,8 +69,11 @@ fn statements_in_ascending_lines_make_a_project(rt: HostRuntime) -> Result<(), F
 
 /// A `link` line of two groups.
 fn two_links<'a>(alloc: Global) -> Result<What<'a>, Fail> {
-    let mut groups = Groups::one(alloc, GroupAddr { raw: 1 });
-    groups.push(GroupAddr { raw: 2 }).ok().ok_or("memory")?;
+    let mut groups = Groups::one(GroupAddr { raw: 1 });
+    groups
+        .push(alloc, GroupAddr { raw: 2 })
+        .ok()
+        .ok_or("memory")?;
     Ok(What::Link {
         device: IndAddr { raw: 0x1105 },
         object: 1,
