@@ -1,10 +1,11 @@
 -- How giving an address ends, by the link's record: what came of it is read off the talk, in which the channel wasn't lost and few datagrams came;
 -- after that the channel is ended, and no request is put. A fault comes exactly at its cause.
-use Rattle.std.specs.Prelude.{◌≡◌, ◌⊎◌, ℕ, suc, ◌+◌, ◌-◌, ◌≤◌, true, false, List, [], ◌∷◌, ◌++◌, reverse, if◌then◌else◌, Result, Ok, Err, OnOk, IfErr}
+use Rattle.std.specs.Prelude.{◌≡◌, ◌⊎◌, ℕ, suc, ◌+◌, ◌-◌, ◌≤◌, true, false, List, [], ◌∷◌, ◌++◌, length, reverse, if◌then◌else◌, Result, Ok, Err, OnOk, IfErr}
 use Rattle.knx_model.specs.declared.address.IndAddr.{IndAddr}
 use Rattle.knx_model.specs.Outside.{Rose}
 use Rattle.line_model.specs.declared.fault.HubFault.{HubFault}
 use Rattle.line_model.specs.declared.fault.HubFault.TheVariants as hub
+use Rattle.line_model.specs.declared.fault.Try.{Try}
 use Rattle.line_model.specs.Asks.{HasPlace}
 use Rattle.line_model.specs.ClientView.{channel}
 use Rattle.line_model.specs.ChannelLost.{answer_wait}
@@ -129,6 +130,10 @@ pub record FailsLate (wanted : IndAddr) (fault : AssignFault) (places : List Pla
 abbrev pub EndsSo : IndAddr → Result Assigned AssignFault → List Placed → Type 0
 EndsSo wanted (Ok assigned) places = Answered wanted assigned places
 EndsSo wanted (Err fault) places = FailsRightly wanted fault places ⊎ FailsLate wanted fault places
+
+-- refused connects are told of three tries
+abbrev pub HasThreeTries : Result Assigned AssignFault → Type 0
+HasThreeTries came = (three : List Try) → came ≡ Err (GatewayRefused three) → length three ≡ 3
 
 -- that the link failed is told only where its count of faults rose
 abbrev pub FailsBy : AssignFault → ℕ → ℕ → Type 0

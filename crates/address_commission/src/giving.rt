@@ -4,12 +4,13 @@ ghost use Rattle.std.specs.Prelude.{◌≡◌, ◌≤◌, IfErr, IfOk, List, Non
 ghost use Rattle.knx_model.specs.Outside.{Rose};
 ghost use Rattle.line_model.specs.LinkStory.{IsNewLink};
 ghost use Rattle.line_model.specs.Record.{entries};
-ghost use Rattle.line_model.specs.Renews.{AcknowledgesRightly};
+ghost use Rattle.line_model.specs.Renews.{AcknowledgesRightly, RenewsRightly};
+ghost use Rattle.line_model.specs.Sendings.{SendsRightly};
 ghost use Rattle.tunnel_link.specs.Rights.{WhereTold};
 ghost use Rattle.address_world.specs.AddressStory.{Told};
 ghost use Rattle.address_world.specs.AddressWorld.{AddressEvent, AddressWorld};
 ghost use Rattle.address_world.specs.Keeps.{AlwaysKeepsUnits};
-ghost use Rattle.address_commission.specs.Ends.{EndsSo, FailsBy, Leaves};
+ghost use Rattle.address_commission.specs.Ends.{EndsSo, FailsBy, HasThreeTries, Leaves};
 
 use crate::assigned::{AssignFault, Assigned};
 use crate::close::close;
@@ -31,9 +32,12 @@ pub fn assign<R: Wait, L: AddressLink>(
     requires { IsNewLink (L.story link) }
     ensures ends { WhereTold (EndsSo wanted result.1) (L.story result.0) }
     ensures leaves { IfOk result.1 (λ assigned. ¬ Rose (L.faults link) (L.faults result.0) → WhereTold (Leaves wanted assigned) (L.story result.0)) }
+    ensures renews { WhereTold (λ places. RenewsRightly (entries places)) (L.story result.0) }
+    ensures sends { WhereTold (λ places. SendsRightly (entries places)) (L.story result.0) }
     ensures acknowledges { WhereTold (λ places. AcknowledgesRightly (entries places)) (L.story result.0) }
     ensures units { (start : AddressWorld) (events : List AddressEvent) → L.told result.0 ≡ Told start events → AlwaysKeepsUnits wanted start events }
     ensures cause { IfErr result.1 (λ fault. FailsBy fault (L.faults link) (L.faults result.0)) }
+    ensures tries { HasThreeTries result.1 }
     ensures count { L.faults link ≤ L.faults result.0 }
     ensures script { L.script result.0 ≡ L.script link }
 {

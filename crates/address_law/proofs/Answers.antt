@@ -13,23 +13,24 @@ use Rattle.address_commission.specs.Talk.{AllSilent, AsksFor, Searches, OneOther
 use Rattle.address_commission.specs.declared.assigned.Assigned.{Assigned}
 use Rattle.address_commission.specs.declared.assigned.Assigned.TheVariants.{Done, NoUnit, Several, Taken, Unconfirmed}
 use Rattle.address_world.specs.declared.unit.Unit.{Unit as BusUnit}
-use Rattle.address_law.specs.Determined.{Determines, NobodyIs, SeveralAre, HasIt, GetsIt, AnotherHasIt as HasAnother, shown, programmed as programmed_units, is_there}
+use Rattle.address_sim.specs.Told.{shown}
+use Rattle.address_law.specs.Determined.{Determines, NobodyIs, SeveralAre, HasIt, GetsIt, AnotherHasIt as HasAnother, programmed as programmed_units, is_there}
 use Rattle.address_law.proofs.Programmed.{programmed, given}
 use Rattle.address_law.proofs.Units.{AreAs, IsIn, the_only}
 use Rattle.address_law.proofs.Rides.{AllIn, AllHeard, Past, Turn, Whole, base, verdict, is_write, base_on, silent_base, written_base, write_is}
 
 -- ---- what was asked is told by the frame
 
-first_octet : Ldata → ℕ
+abbrev first_octet : Ldata → ℕ
 first_octet f = get_or f.tpdu 0 99
 
-number : Asked → ℕ
+abbrev number : Asked → ℕ
 number Read = 1
 number Connect = 128
 number Disconnect = 129
 number Write = 0
 
-asked_of : ℕ → Asked
+abbrev asked_of : ℕ → Asked
 asked_of n = cond (n == 1) Read (cond (n == 128) Connect (cond (n == 129) Disconnect Write))
 
 first_is : (wanted : IndAddr) (asked : Asked) → first_octet (frame_of wanted asked) ≡ number asked
@@ -66,7 +67,7 @@ end_none [] = refl
 end_none (x ∷ l) = ap (λ z. x ∷ z) (end_none l)
 
 answers_more : (r : Round) (rs : List Round) → is_read r.frame ≡ false → r.answers ≡ [] → answers (r ∷ rs) ≡ answers rs
-answers_more r rs no none = ap (λ b. cond b r.answers (answers rs ++ r.answers)) no ∙ (ap (λ l. answers rs ++ l) none ∙ end_none (answers rs))
+answers_more r rs isnt none = ap (λ b. cond b r.answers (answers rs ++ r.answers)) isnt ∙ (ap (λ l. answers rs ++ l) none ∙ end_none (answers rs))
 
 connect_not : (wanted : IndAddr) (r : Round) → AsksFor wanted Connect r → is_read r.frame ≡ false
 connect_not wanted r asks = ap is_read asks
@@ -78,15 +79,15 @@ disconnect_not wanted r asks = ap is_read asks
 
 contains : (s : IndAddr) (l : List IndAddr) → IsIn s l → Contains l s
 contains s [] h = absurd h
-contains s (x ∷ l) (inl e) = (0, (omega arith, sym e))
-contains s (x ∷ l) (inr h) = let c = contains s l h in let lt = c.1 in (suc c.0, (omega (arith, lt), c.2))
+contains s (x ∷ l) (inl e) = (0, omega arith, sym e)
+contains s (x ∷ l) (inr h) = let c = contains s l h in let lt = c.1 in (suc c.0, omega (arith, lt), c.2)
 
 none_is : (l : List IndAddr) → length l ≡ 0 → l ≡ []
 none_is [] h = refl
 none_is (x ∷ l) h = absurd (let z : ⊥ = omega (arith, h) in z)
 
 -- all units in programming mode have it
-AllOf : IndAddr → List IndAddr → Type 0
+abbrev AllOf : IndAddr → List IndAddr → Type 0
 AllOf wanted [] = Unit {0}
 AllOf wanted (x ∷ l) = (x ≡ wanted) × AllOf wanted l
 
@@ -289,22 +290,22 @@ module _ (wanted : IndAddr) (start : List UnitState) where
   as_start rs units e held = subst (λ b. AreAs b units) e held
 
   pub gives : (rs : List Round) (units : List UnitState) (assigned : Assigned) → Gives wanted rs assigned → Past wanted start rs → AreAs (B rs) units → Ended units assigned
-  gives rs units NoUnit (NobodyAnswers all n) p held = record { determined = NobodyIs (programmed_shown start ∙ silent rs all n p); held = as_start rs units (silent_base wanted start rs all) held }
-  gives (r ∷ before) units Done (HasItAlready s e) p held =
+  gives rs units _ (NobodyAnswers all n) p held = record { determined = NobodyIs (programmed_shown start ∙ silent rs all n p); held = as_start rs units (silent_base wanted start rs all) held }
+  gives (r ∷ before) units _ (HasItAlready s e) p held =
       let f = searched r before p s in
       record { determined = HasIt (one wanted (answers (r ∷ before)) f e); held = done_held units (same_one (programmed start) wanted (answers (r ∷ before)) e f.count f.among) (as_start (r ∷ before) units (search_base r before s) held) }
-  gives (r ∷ before) units (Several first second) (ManyAnswer first second s more) p held =
+  gives (r ∷ before) units _ (ManyAnswer first second s more) p held =
       record { determined = several first second (answers (r ∷ before)) (searched r before p s) more; held = as_start (r ∷ before) units (search_base r before s) held }
-  gives (d ∷ c ∷ r ∷ before) units (Several first second) (ManyAnswerLate first second s asks ends more) p held =
+  gives (d ∷ c ∷ r ∷ before) units _ (ManyAnswerLate first second s asks ends more) p held =
       let t = tried d c r before p s asks ends in
       record { determined = several first second (answers (d ∷ c ∷ r ∷ before)) (tried_found d c r before t) more; held = as_start (d ∷ c ∷ r ∷ before) units (tried_base d c r before t) held }
-  gives (d ∷ c ∷ r ∷ before) units Taken (AnotherHasIt s asks ends no other) p held =
+  gives (d ∷ c ∷ r ∷ before) units _ (AnotherHasIt s asks ends clear other) p held =
       let t = tried d c r before p s asks ends in
       record {
-        determined = HasAnother (one other.source (answers (d ∷ c ∷ r ∷ before)) (tried_found d c r before t) other.one) other.other (there_shown start ∙ not_of (has_address wanted.raw start) false (told_there d c r before t false no));
+        determined = HasAnother (one other.source (answers (d ∷ c ∷ r ∷ before)) (tried_found d c r before t) other.one) other.other (there_shown start ∙ not_of (has_address wanted.raw start) false (told_there d c r before t false clear));
         held = as_start (d ∷ c ∷ r ∷ before) units (tried_base d c r before t) held;
       }
-  gives (v ∷ w ∷ rs) units Done (HasItNow reads writes e) p held =
+  gives (v ∷ w ∷ rs) units _ (HasItNow reads writes e) p held =
       let s = sure v w rs reads writes p in
       record { determined = GetsIt (programmed_shown start ∙ s.by.single) (there_shown start ∙ s.by.nobody); held = subst (λ b. AreAs b units) s.base_is held }
-  gives (v ∷ w ∷ rs) units Unconfirmed (IsntSure reads writes no) p held = absurd (no (sure v w rs reads writes p).answered)
+  gives (v ∷ w ∷ rs) units _ (IsntSure reads writes isnt) p held = absurd (isnt (sure v w rs reads writes p).answered)

@@ -36,13 +36,14 @@ use Rattle.address_commission.proofs.Ends.{all_first, ends_rightly}
 use Rattle.address_commission.specs.Rounds.{Round, rounds, quiet_since, has_lost}
 use Rattle.address_commission.specs.Talk.{AllSilent, AsksFor, Searches, Gives, NobodyAnswers, HasItAlready, ManyAnswer, ManyAnswerLate, AnotherHasIt, HasItNow, IsntSure, HeardOutBy, TalksRightly}
 use Rattle.address_commission.specs.Going.{GoOn}
-use Rattle.address_commission.specs.Ends.{AnsweredBy, Answered, EndsSo, FailsRightly, FailsLate}
+use Rattle.address_commission.specs.Ends.{AnsweredBy, Answered, EndsSo, FailsRightly, FailsLate, HasThreeTries}
 use Rattle.address_commission.specs.declared.assigned.Assigned.{Assigned}
 use Rattle.address_commission.specs.declared.assigned.Assigned.TheVariants.{Done, NoUnit, Several, Taken, Unconfirmed}
 use Rattle.address_commission.specs.declared.assigned.AssignFault.{AssignFault}
 use Rattle.address_commission.specs.declared.assigned.AssignFault.TheVariants.{TunnelLost, LinkFailed, GatewayRefused, Flooded, NoMemory}
+use Rattle.address_sim.specs.Told.{shown}
 use Rattle.address_law.specs.Calm.{AreCalm}
-use Rattle.address_law.specs.Determined.{ComesTo, Determines, EndsWith, FailsOutside, HasThreeTries, shown, given as given_unit, left_by}
+use Rattle.address_law.specs.Determined.{ComesTo, Determines, EndsWith, FailsOutside, given as given_unit, left_by}
 use Rattle.address_law.proofs.Programmed.{given}
 use Rattle.address_law.proofs.Units.{AreAs}
 use Rattle.address_law.proofs.Rides.{AllHeard, Rides, heard_all, is_write, no_write}
@@ -55,7 +56,7 @@ use Rattle.address_law.proofs.Unwritten.{NoWrites, kept_given, unwritten, writes
 
 -- ---- a channel that lives wasn't lost
 
-lost_in : List Entry → Bool
+abbrev lost_in : List Entry → Bool
 lost_in [] = false
 lost_in (x ∷ r) = is_loss (deed (channel r) x) || lost_in r
 
@@ -182,13 +183,13 @@ module _ (wanted : IndAddr) (start : AddressWorld) where
   tried_not d c r before s asks ends = (other_frame Disconnect d (λ e. cc) ends, (other_frame Connect c (λ e. cc) asks, search_not r before s))
 
   writes_not : (rs : List Round) (assigned : Assigned) → Gives wanted rs assigned → WritesNot assigned rs
-  writes_not rs NoUnit (NobodyAnswers all n) = silent_not rs all
-  writes_not (r ∷ before) Done (HasItAlready s e) = tt
-  writes_not (r ∷ before) (Several first second) (ManyAnswer first second s more) = search_not r before s
-  writes_not (d ∷ c ∷ r ∷ before) (Several first second) (ManyAnswerLate first second s asks ends more) = tried_not d c r before s asks ends
-  writes_not (d ∷ c ∷ r ∷ before) Taken (AnotherHasIt s asks ends no other) = tried_not d c r before s asks ends
-  writes_not (v ∷ w ∷ rs) Done (HasItNow reads writes e) = tt
-  writes_not (v ∷ w ∷ rs) Unconfirmed (IsntSure reads writes no) = tt
+  writes_not rs _ (NobodyAnswers all n) = silent_not rs all
+  writes_not (r ∷ before) _ (HasItAlready s e) = tt
+  writes_not (r ∷ before) _ (ManyAnswer first second s more) = search_not r before s
+  writes_not (d ∷ c ∷ r ∷ before) _ (ManyAnswerLate first second s asks ends more) = tried_not d c r before s asks ends
+  writes_not (d ∷ c ∷ r ∷ before) _ (AnotherHasIt s asks ends clear other) = tried_not d c r before s asks ends
+  writes_not (v ∷ w ∷ rs) _ (HasItNow reads writes e) = tt
+  writes_not (v ∷ w ∷ rs) _ (IsntSure reads writes isnt) = tt
 
   module _ (places : List Placed) (rightly : TalksRightly wanted places) where
     -- all that was put by the end is of the four

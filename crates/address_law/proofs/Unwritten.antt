@@ -21,7 +21,7 @@ use Rattle.address_world.proofs.Always.{Keeping, holds}
 use Rattle.address_world.proofs.Requests.{FirstSo, AllFirst, sends_only}
 use Rattle.address_commission.specs.Rounds.{Round, on_newest, with_frame, after_deed}
 use Rattle.address_commission.specs.Going.{GoOn}
-use Rattle.address_law.specs.Determined.{shown}
+use Rattle.address_sim.specs.Told.{shown}
 use Rattle.address_law.proofs.Programmed.{given}
 use Rattle.address_law.proofs.Units.{IsAs, AreAs}
 use Rattle.address_law.proofs.Rides.{is_write, write_is}
@@ -81,7 +81,7 @@ module _ (wanted : IndAddr) where
 
   -- ---- the rounds
 
-  pub NoWrites : List Round → Type 0
+  abbrev pub NoWrites : List Round → Type 0
   NoWrites [] = Unit {0}
   NoWrites (r ∷ rs) = (is_write r.frame ≡ false) × NoWrites rs
 

@@ -4,19 +4,13 @@
 use Rattle.std.specs.Prelude.{◌≡◌, ◌≢◌, ℕ, ◌≤◌, Bool, true, false, ◌==◌, List, [], ◌∷◌, map, length, Contains, if◌then◌else◌, Result, Ok, Err}
 use Rattle.std.specs.List.{list_any}
 use Rattle.knx_model.specs.declared.address.IndAddr.{IndAddr}
-use Rattle.line_model.specs.declared.fault.Try.{Try}
 use Rattle.address_world.specs.declared.unit.Unit.{Unit as BusUnit}
-use Rattle.address_world.specs.AddressWorld.{UnitState}
 use Rattle.address_commission.specs.declared.assigned.Assigned.{Assigned}
 use Rattle.address_commission.specs.declared.assigned.Assigned.TheVariants.{Done, NoUnit, Several, Taken, Unconfirmed}
 use Rattle.address_commission.specs.declared.assigned.AssignFault.{AssignFault}
 use Rattle.address_commission.specs.declared.assigned.AssignFault.TheVariants.{TunnelLost, LinkFailed, GatewayRefused, Flooded, NoMemory}
 
 -- ---- the units
-
--- a unit as it is shown
-abbrev pub shown : UnitState → BusUnit
-shown u = record { address = u.address; prog = u.programming }
 
 -- the addresses of the units in programming mode
 abbrev pub programmed : List BusUnit → List IndAddr
@@ -62,7 +56,3 @@ FailsOutside (NoMemory want) = Unit {0}
 abbrev pub ComesTo : IndAddr → List BusUnit → List BusUnit → Result Assigned AssignFault → Type 0
 ComesTo wanted start now (Ok assigned) = EndsWith wanted start now assigned
 ComesTo wanted start now (Err fault) = FailsOutside fault
-
--- refused connects are told of three tries
-abbrev pub HasThreeTries : Result Assigned AssignFault → Type 0
-HasThreeTries came = (three : List Try) → came ≡ Err (GatewayRefused three) → length three ≡ 3

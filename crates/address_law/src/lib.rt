@@ -9,12 +9,13 @@ ghost use Rattle.line_model.specs.Sendings.{SendsRightly};
 ghost use Rattle.address_world.specs.AddressLegal.{IsFresh, IsLegal};
 ghost use Rattle.address_world.specs.AddressStory.{record_of};
 ghost use Rattle.address_world.specs.AddressWorld.{AddressEvent, AddressWorld, replay};
-ghost use Rattle.address_commission.specs.Ends.{EndsSo};
+ghost use Rattle.address_commission.specs.Ends.{EndsSo, HasThreeTries};
 ghost use Rattle.address_commission.specs.declared.assigned.AssignFault.{AssignFault as Fault};
 ghost use Rattle.address_commission.specs.declared.assigned.Assigned.{Assigned as Answer};
 ghost use Rattle.address_sim.specs.Follows.{FollowsText};
+ghost use Rattle.address_sim.specs.Told.{shown};
 ghost use Rattle.address_law.specs.Calm.{AreCalm};
-ghost use Rattle.address_law.specs.Determined.{ComesTo, HasThreeTries, shown};
+ghost use Rattle.address_law.specs.Determined.{ComesTo};
 
 /// Over every order of the events of a calm bus, and a client that gives an address as `assign` does: it is told what the units at the start determine, and at
 /// the end just the unit that is to have the wanted address has got it. The channel isn't lost, and no try to get one fails.
