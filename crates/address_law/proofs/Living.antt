@@ -91,7 +91,7 @@ records start (e ∷ past) =
 
 -- ---- what holds of the record before
 
-stays_before : (o : Option Item) (now : ℕ) (r : List Entry) → StaysOpen (noted o now r) → StaysOpen r
+pub stays_before : (o : Option Item) (now : ℕ) (r : List Entry) → StaysOpen (noted o now r) → StaysOpen r
 stays_before None now r h = h
 stays_before (Some what) now r h = h.1
 

@@ -6,13 +6,13 @@ use Rattle.address_sim.specs.Follows.{IsCarriedSo, IsInPlace, FollowsText, broad
 use Rattle.address_sim.specs.Told.{is_broadcast}
 use Rattle.address_law.specs.Calm.{AreCalm, IsCalm}
 
-either_none : (b : Bool) → cond b [] [] ≡ ([] {A = ℕ})
-either_none true = refl
-either_none false = refl
+either_way : (b : Bool) (l : List ℕ) → cond b l l ≡ l
+either_way true l = refl
+either_way false l = refl
 
 none_left_out : (n : ℕ) (o : Option Ldata) (left_out : List ℕ) → IsCarriedSo [] n o left_out → left_out ≡ []
 none_left_out n None left_out h = absurd h
-none_left_out n (Some frame) left_out h = h ∙ either_none (is_broadcast frame)
+none_left_out n (Some frame) left_out h = h ∙ either_way (is_broadcast frame) []
 
 module _ (start : AddressWorld) where
   in_place : (past : List AddressEvent) (e : AddressEvent) → IsInPlace [] start past e → IsCalm (replay start past) e

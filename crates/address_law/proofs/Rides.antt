@@ -303,7 +303,7 @@ no_write wanted Connect h = refl
 no_write wanted Disconnect h = refl
 no_write wanted Write h = absurd (h refl)
 
-has_as : (raw : ℕ) (base units : List UnitState) → AreAs base units → has_address raw units ≡ has_address raw base
+pub has_as : (raw : ℕ) (base units : List UnitState) → AreAs base units → has_address raw units ≡ has_address raw base
 has_as raw [] [] h = refl
 has_as raw [] (u ∷ units) h = absurd h
 has_as raw (b ∷ base) [] h = absurd h
@@ -342,7 +342,7 @@ module _ (wanted : IndAddr) (start : List UnitState) where
   asks_none error None con e h = (con, (refl, h))
   asks_none error (Some x) con e h = absurd (cc)
 
-  carried_over : (me : IndAddr) (asked : Asked) (f : Ldata) (r : Round) (rs : List Round) (units : List UnitState) (q : List Ldata) (con : Ldata) (since now : ℕ) → AsksFor wanted asked r → MayAsk wanted rs asked → Rising wanted start f r q units → AreAs (Units rs) units
+  pub carried_over : (me : IndAddr) (asked : Asked) (f : Ldata) (r : Round) (rs : List Round) (units : List UnitState) (q : List Ldata) (con : Ldata) (since now : ℕ) → AsksFor wanted asked r → MayAsk wanted rs asked → Rising wanted start f r q units → AreAs (Units rs) units
       → ReadsConfirmation (verdict wanted start asked (Units rs)) con → Carried asked r (Units (r ∷ rs)) (carried_so me wanted asked units) con since now
   carried_over me Read f r rs units q con since now asks may h held reads =
       let x = read_as (Units rs) units held h.sent in

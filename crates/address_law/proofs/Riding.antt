@@ -36,7 +36,7 @@ use Rattle.address_law.proofs.Rides.{Rides, Rising, Over, ReadsConfirmation, bas
 
 -- ---- what an entry does
 
-takes : Deed → Bool
+abbrev takes : Deed → Bool
 takes (Takes cemi) = true
 takes _ = false
 
