@@ -1,6 +1,3 @@
-pub mod Rounds
-pub mod Talk
-pub mod Pace
-pub mod Listening
 pub mod Going
-pub mod Ends
+pub mod Listening
+pub mod Calls

@@ -2,11 +2,12 @@
 
 ghost use Rattle.std.specs.Prelude.{◌≡◌, ◌≤◌, IfErr, OnOk, None};
 ghost use Rattle.tunnel_link.specs.Rights.{WhereTold};
-ghost use Rattle.address_commission.specs.Ends.{AsksGoes, FailsBy, TalkFails};
+ghost use Rattle.address_commission.specs.Calls.{AsksGoes, TalkFails};
+ghost use Rattle.address_talk.specs.Ends.{FailsBy};
 ghost use Rattle.address_commission.specs.Going.{AsksOne, Going};
 ghost use Rattle.address_commission.specs.Listening.{IsOut, IsTurnTo, Listens, quiet_after};
 
-use crate::assigned::AssignFault;
+use address_talk::AssignFault;
 use crate::ear::Ear;
 use crate::frames::request_of;
 use crate::told::told;

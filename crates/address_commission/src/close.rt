@@ -15,11 +15,12 @@ ghost use Rattle.tunnel_link.specs.Adds.{Growing};
 ghost use Rattle.tunnel_link.specs.Alone.{Each, EndsNone};
 ghost use Rattle.tunnel_link.specs.Goes.{GoesOn};
 ghost use Rattle.tunnel_link.specs.Rights.{WhereTold};
-ghost use Rattle.address_commission.specs.Ends.{ClosesSo, ComesLate, FailsBy, FailsSo, HasAwaited, LeavesOn, LeavesSince, LeftOn, PaceKept, got_one};
+ghost use Rattle.address_commission.specs.Calls.{ClosesSo, HasAwaited, LeavesSince, LeftOn, PaceKept, got_one};
+ghost use Rattle.address_talk.specs.Ends.{ComesLate, FailsBy, FailsSo, LeavesOn};
 ghost use Rattle.address_commission.specs.Going.{Going};
-ghost use Rattle.address_commission.specs.Rounds.{has_lost};
+ghost use Rattle.address_talk.specs.Rounds.{has_lost};
 
-use crate::assigned::AssignFault;
+use address_talk::AssignFault;
 use crate::told::told;
 use line_model::Link;
 use std::sync::Wait;

@@ -6,11 +6,12 @@ ghost use Rattle.line_model.specs.ClientView.{channel};
 ghost use Rattle.line_model.specs.Record.{entries};
 ghost use Rattle.tunnel_link.specs.Adds.{HasActed};
 ghost use Rattle.tunnel_link.specs.Rights.{WhereTold};
-ghost use Rattle.address_commission.specs.Ends.{FailsBy, TalkGoes};
-ghost use Rattle.address_commission.specs.Going.{SameRounds};
+ghost use Rattle.address_talk.specs.Ends.{FailsBy};
+ghost use Rattle.address_commission.specs.Calls.{TalkGoes};
+ghost use Rattle.address_talk.specs.Rounds.{SameRounds};
 ghost use Rattle.address_commission.specs.declared.ear.Ear.{Ear as HeldEar};
 
-use crate::assigned::AssignFault;
+use address_talk::AssignFault;
 use crate::ear::Ear;
 use crate::told::told;
 use crate::turn::{act, poll};

@@ -4,12 +4,14 @@ ghost use Rattle.std.specs.Prelude.{◌≡◌, ◌<◌, ◌≤◌, IfErr, OnOk, 
 ghost use Rattle.knx_model.specs.declared.address.IndAddr.{IndAddr as Address};
 ghost use Rattle.tunnel_link.specs.Adds.{HasActed};
 ghost use Rattle.tunnel_link.specs.Rights.{WhereTold};
-ghost use Rattle.address_commission.specs.Ends.{EndsFor, FailsBy, TalkGoes};
-ghost use Rattle.address_commission.specs.Going.{Going, SameRounds};
+ghost use Rattle.address_commission.specs.Calls.{EndsFor, TalkGoes};
+ghost use Rattle.address_talk.specs.Ends.{FailsBy};
+ghost use Rattle.address_commission.specs.Going.{Going};
+ghost use Rattle.address_talk.specs.Rounds.{SameRounds};
 ghost use Rattle.address_commission.specs.Listening.{AwaitsFor, Listens};
 ghost use Rattle.address_commission.specs.declared.ear.Ear.{Ear as HeldEar};
 
-use crate::assigned::AssignFault;
+use address_talk::AssignFault;
 use crate::ear::Ear;
 use crate::told::told;
 use line_model::Link;

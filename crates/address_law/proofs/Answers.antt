@@ -8,12 +8,12 @@ use Rattle.address_world.specs.declared.asked.Asked.{Asked}
 use Rattle.address_world.specs.declared.asked.Asked.TheVariants.{Read, Connect, Disconnect, Write}
 use Rattle.address_world.specs.AddressWorld.{UnitState, has_address}
 use Rattle.address_world.specs.Keeps.{frame_of}
-use Rattle.address_commission.specs.Rounds.{Round, is_read, answers}
-use Rattle.address_commission.specs.Talk.{AllSilent, AsksFor, Searches, OneOther, SeveralAnswer, MayAsk, Writes, Gives, NobodyAnswers, HasItAlready, ManyAnswer, ManyAnswerLate, AnotherHasIt, HasItNow, IsntSure}
-use Rattle.address_commission.specs.declared.assigned.Assigned.{Assigned}
-use Rattle.address_commission.specs.declared.assigned.Assigned.TheVariants.{Done, NoUnit, Several, Taken, Unconfirmed}
+use Rattle.address_talk.specs.Rounds.{Round, is_read, answers}
+use Rattle.address_talk.specs.Talk.{AllSilent, AsksFor, Searches, OneOther, SeveralAnswer, MayAsk, Writes, Gives, NobodyAnswers, HasItAlready, ManyAnswer, ManyAnswerLate, AnotherHasIt, HasItNow, IsntSure}
+use Rattle.address_talk.specs.declared.assigned.Assigned.{Assigned}
+use Rattle.address_talk.specs.declared.assigned.Assigned.TheVariants.{Done, NoUnit, Several, Taken, Unconfirmed}
 use Rattle.address_world.specs.declared.unit.Unit.{Unit as BusUnit}
-use Rattle.address_sim.specs.Told.{shown}
+use Rattle.address_world.specs.Shown.{shown}
 use Rattle.address_law.specs.Determined.{Determines, NobodyIs, SeveralAre, HasIt, GetsIt, AnotherHasIt as HasAnother, programmed as programmed_units, is_there}
 use Rattle.address_law.proofs.Programmed.{programmed, given}
 use Rattle.address_law.proofs.Units.{AreAs, IsIn, the_only}

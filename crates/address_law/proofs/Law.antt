@@ -32,16 +32,15 @@ use Rattle.address_world.specs.AddressStory.{record_of}
 use Rattle.address_world.specs.Keeps.{AllAskFirst, PutsOnly, KeepsUnits}
 use Rattle.address_world.proofs.Always.{kept_since}
 use Rattle.address_world.proofs.Requests.{puts_only}
-use Rattle.address_commission.proofs.Ends.{all_first, ends_rightly}
-use Rattle.address_commission.specs.Rounds.{Round, rounds, quiet_since, has_lost}
-use Rattle.address_commission.specs.Talk.{AllSilent, AsksFor, Searches, Gives, NobodyAnswers, HasItAlready, ManyAnswer, ManyAnswerLate, AnotherHasIt, HasItNow, IsntSure, HeardOutBy, TalksRightly}
-use Rattle.address_commission.specs.Going.{GoOn}
-use Rattle.address_commission.specs.Ends.{AnsweredBy, Answered, EndsSo, FailsRightly, FailsLate, HasThreeTries}
-use Rattle.address_commission.specs.declared.assigned.Assigned.{Assigned}
-use Rattle.address_commission.specs.declared.assigned.Assigned.TheVariants.{Done, NoUnit, Several, Taken, Unconfirmed}
-use Rattle.address_commission.specs.declared.assigned.AssignFault.{AssignFault}
-use Rattle.address_commission.specs.declared.assigned.AssignFault.TheVariants.{TunnelLost, LinkFailed, GatewayRefused, Flooded, NoMemory}
-use Rattle.address_sim.specs.Told.{shown}
+use Rattle.address_talk.proofs.Ends.{all_first, ends_rightly}
+use Rattle.address_talk.specs.Rounds.{Round, rounds, quiet_since, has_lost, GoOn}
+use Rattle.address_talk.specs.Talk.{AllSilent, AsksFor, Searches, Gives, NobodyAnswers, HasItAlready, ManyAnswer, ManyAnswerLate, AnotherHasIt, HasItNow, IsntSure, HeardOutBy, TalksRightly}
+use Rattle.address_talk.specs.Ends.{AnsweredBy, Answered, EndsSo, FailsRightly, FailsLate, HasThreeTries}
+use Rattle.address_talk.specs.declared.assigned.Assigned.{Assigned}
+use Rattle.address_talk.specs.declared.assigned.Assigned.TheVariants.{Done, NoUnit, Several, Taken, Unconfirmed}
+use Rattle.address_talk.specs.declared.assigned.AssignFault.{AssignFault}
+use Rattle.address_talk.specs.declared.assigned.AssignFault.TheVariants.{TunnelLost, LinkFailed, GatewayRefused, Flooded, NoMemory}
+use Rattle.address_world.specs.Shown.{shown}
 use Rattle.address_law.specs.Calm.{AreCalm}
 use Rattle.address_law.specs.Determined.{ComesTo, Determines, EndsWith, FailsOutside, given as given_unit, left_by}
 use Rattle.address_law.proofs.Programmed.{given}

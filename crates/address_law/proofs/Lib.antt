@@ -8,4 +8,3 @@ pub mod Parts
 pub mod Answers
 pub mod Unwritten
 pub mod Law
-pub mod Quiet

@@ -17,8 +17,8 @@ use Rattle.address_world.specs.declared.asked.Asked.{Asked}
 use Rattle.address_world.specs.declared.asked.Asked.TheVariants.{Read, Connect, Disconnect, Write}
 use Rattle.address_world.specs.AddressWorld.{UnitState, all_get, broadcast, changed, has_address, oldest_at, response, sends}
 use Rattle.address_world.specs.Keeps.{frame_of}
-use Rattle.address_commission.specs.Rounds.{Round, begun, on_newest, answer_in, confirmed_by, and_answer, with_frame}
-use Rattle.address_commission.specs.Talk.{AllSilent, AsksFor, MayAsk, Writes, HeardOutBy, IsHeardOut, listening_wait}
+use Rattle.address_talk.specs.Rounds.{Round, begun, on_newest, answer_in, confirmed_by, and_answer, with_frame}
+use Rattle.address_talk.specs.Talk.{AllSilent, AsksFor, MayAsk, Writes, HeardOutBy, IsHeardOut, listening_wait}
 use Rattle.address_law.proofs.Programmed.{programmed, given}
 use Rattle.address_law.proofs.Units.{AreAs, IsIn, Responds, todo, reads as reads_unit, get_read, get_write, get_connect, get_disconnect, read_as, write_as, responds}
 

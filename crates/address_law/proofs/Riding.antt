@@ -27,8 +27,8 @@ use Rattle.address_world.specs.declared.asked.Asked.TheVariants.{Read, Connect, 
 use Rattle.address_world.specs.AddressWorld.{AddressWorld, AddressEvent, UnitState, Send, Renew, Up, UpRefused, Down, LoseUp, LoseDown, Bus, Respond, GwRepeat, GwClose, Pass, me, next_frame, has_address, confirmation, carried, carried_to, changed, oldest_at, sends, tunnel_event, units_after}
 use Rattle.address_world.specs.AddressLegal.{UnitsAllow}
 use Rattle.address_world.specs.Keeps.{frame_of}
-use Rattle.address_commission.specs.Rounds.{Round, after_deed, quiet_since, with_frame}
-use Rattle.address_commission.specs.Talk.{AsksFor}
+use Rattle.address_talk.specs.Rounds.{Round, after_deed, quiet_since, with_frame}
+use Rattle.address_talk.specs.Talk.{AsksFor}
 use Rattle.address_law.specs.Calm.{AllSent, IsCalm}
 use Rattle.address_law.proofs.Talks.{rounds_of, DoesSo}
 use Rattle.address_law.proofs.Units.{AreAs, todo, responds}

@@ -9,8 +9,8 @@ use Rattle.line_model.specs.Moments.{moments}
 use Rattle.address_world.specs.declared.asked.Asked.{Asked}
 use Rattle.address_world.specs.declared.asked.Asked.TheVariants.{Read, Connect, Disconnect, Write}
 use Rattle.address_world.specs.Keeps.{frame_of}
-use Rattle.address_commission.specs.Rounds.{Round, after_deed, rounds}
-use Rattle.address_commission.specs.Talk.{MayAsk, HeardOut, DoesRightly, TalksRightly}
+use Rattle.address_talk.specs.Rounds.{Round, after_deed, rounds}
+use Rattle.address_talk.specs.Talk.{MayAsk, HeardOut, DoesRightly, TalksRightly}
 use Rattle.calm_law.specs.CalmTunnel.{PutsSo, PutsRightly}
 
 abbrev pub rounds_of : List Entry → List Round

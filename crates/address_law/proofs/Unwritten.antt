@@ -19,9 +19,8 @@ use Rattle.address_world.specs.AddressStory.{record_of}
 use Rattle.address_world.specs.Keeps.{KeepsUnit, KeepsUnits, frame_of}
 use Rattle.address_world.proofs.Always.{Keeping, holds}
 use Rattle.address_world.proofs.Requests.{FirstSo, AllFirst, sends_only}
-use Rattle.address_commission.specs.Rounds.{Round, on_newest, with_frame, after_deed}
-use Rattle.address_commission.specs.Going.{GoOn}
-use Rattle.address_sim.specs.Told.{shown}
+use Rattle.address_talk.specs.Rounds.{Round, on_newest, with_frame, after_deed, GoOn}
+use Rattle.address_world.specs.Shown.{shown}
 use Rattle.address_law.proofs.Programmed.{given}
 use Rattle.address_law.proofs.Units.{IsAs, AreAs}
 use Rattle.address_law.proofs.Rides.{is_write, write_is}

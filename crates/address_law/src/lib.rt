@@ -1,7 +1,7 @@
 //! The law of individual addresses where nothing is lost: what comes of giving one is what the units at the start determine.
 #![tactic(auto)]
 
-ghost use Rattle.std.specs.Prelude.{List, [], map, Result};
+ghost use Rattle.std.specs.Prelude.{List, map, Result};
 ghost use Rattle.knx_model.specs.declared.address.IndAddr.{IndAddr as Address};
 ghost use Rattle.line_model.specs.Record.{counted};
 ghost use Rattle.line_model.specs.Renews.{AcknowledgesRightly, RenewsRightly};
@@ -9,11 +9,10 @@ ghost use Rattle.line_model.specs.Sendings.{SendsRightly};
 ghost use Rattle.address_world.specs.AddressLegal.{IsFresh, IsLegal};
 ghost use Rattle.address_world.specs.AddressStory.{record_of};
 ghost use Rattle.address_world.specs.AddressWorld.{AddressEvent, AddressWorld, replay};
-ghost use Rattle.address_commission.specs.Ends.{EndsSo, HasThreeTries};
-ghost use Rattle.address_commission.specs.declared.assigned.AssignFault.{AssignFault as Fault};
-ghost use Rattle.address_commission.specs.declared.assigned.Assigned.{Assigned as Answer};
-ghost use Rattle.address_sim.specs.Follows.{FollowsText};
-ghost use Rattle.address_sim.specs.Told.{shown};
+ghost use Rattle.address_talk.specs.Ends.{EndsSo, HasThreeTries};
+ghost use Rattle.address_talk.specs.declared.assigned.AssignFault.{AssignFault as Fault};
+ghost use Rattle.address_talk.specs.declared.assigned.Assigned.{Assigned as Answer};
+ghost use Rattle.address_world.specs.Shown.{shown};
 ghost use Rattle.address_law.specs.Calm.{AreCalm};
 ghost use Rattle.address_law.specs.Determined.{ComesTo};
 
@@ -23,9 +22,4 @@ pub fn the_units_determine_what_comes_of_it()
     ensures { (wanted : Address) (start : AddressWorld) (events : List AddressEvent) (came : Result Answer Fault) → HasThreeTries came → IsFresh start → IsLegal start events → AreCalm start events
         → RenewsRightly (record_of start events) → SendsRightly (record_of start events) → AcknowledgesRightly (record_of start events) → EndsSo wanted came (counted (record_of start events))
         → ComesTo wanted (map shown start.units) (map shown (replay start events).units) came }
-{}
-
-/// Where the simulated bus follows a text that loses nothing, it is calm.
-pub fn a_text_without_losses_is_calm()
-    ensures { (start : AddressWorld) (events : List AddressEvent) → FollowsText [] start events → AreCalm start events }
 {}

@@ -1,15 +1,16 @@
 -- `assign`: what it comes to, and what is written of it.
 use Rattle.std.proofs.Common.{◌≡◌, ◌≢◌, ℕ, ◌≤◌, ◌∙◌, ap, true, ◌⊎◌, Option, None, Some, List, [], ◌∷◌, Result, Ok, Err, refl, sym, subst, inl, inr}
 use Rattle.std.specs.Prelude.{IfErr, IfOk, map}
-use Rattle.address_commission.specs.Ends.{EndsSo, FailsBy, HasThreeTries, Leaves}
+use Rattle.address_talk.specs.Ends.{EndsSo, FailsBy, Leaves}
 use Rattle.address_law.specs.Calm.{AreCalm}
 use Rattle.address_law.specs.Determined.{ComesTo}
 use Rattle.address_sim.specs.Driven.{BusNow}
 use Rattle.address_sim.specs.Follows.{FollowsText}
 use Rattle.address_sim.specs.Stays.{lines_of}
-use Rattle.address_sim.specs.Told.{Begun, RunNow, at_rest, shown, start, start_of, story, told as told_of, units_now}
+use Rattle.address_sim.specs.Told.{Begun, RunNow, at_rest, start, start_of, story, told as told_of, units_now}
+use Rattle.address_world.specs.Shown.{shown}
 use Rattle.address_world.specs.AddressLegal.{IsFresh, IsLegal}
-use Rattle.address_world.specs.AddressStory.{Told, record_of}
+use Rattle.address_world.specs.AddressStory.{Told}
 use Rattle.address_world.specs.AddressWorld.{AddressEvent, AddressWorld, replay}
 use Rattle.address_world.specs.Keeps.{AlwaysKeepsUnits}
 use Rattle.address_world.specs.declared.unit.UnitLoss.{UnitLoss}
@@ -22,10 +23,8 @@ use Rattle.knx_model.specs.declared.address.IndAddr.{IndAddr}
 use Rattle.knx_model.specs.Outside.{FilesNow, Rose, one_more}
 use Rattle.line_model.specs.Dialled.{Address, DialerNow, Tells}
 use Rattle.line_model.specs.LinkStory.{Story}
-use Rattle.line_model.proofs.Entries.{entries_counted}
-use Rattle.line_model.specs.Record.{Entry, counted, entries}
-use Rattle.line_model.specs.Renews.{AcknowledgesRightly, RenewsRightly}
-use Rattle.line_model.specs.Sendings.{SendsRightly}
+use Rattle.line_model.specs.Record.{entries}
+use Rattle.line_model.specs.Renews.{AcknowledgesRightly}
 use Rattle.tunnel_link.specs.Rights.{WhereTold}
 use Rattle.call_parts.specs.Ending.{Is, StopsFor, report_in, wanting}
 use Rattle.call_parts.specs.Given.{EndsAs}
@@ -179,55 +178,40 @@ given_dialled words before after since dials given end count tells once same sti
 run_begun : (wanted : IndAddr) (text : Units) (bus : BusNow) → BeginsAs wanted (Ok text) bus → bus.run.begun ≡ begun_by wanted text
 run_begun wanted text bus b = ap (λ (r : RunNow). r.begun) b.0
 
-run_begun_so : (wanted : IndAddr) (text : Units) (bus after : BusNow) → BeginsAs wanted (Ok text) bus → ((one other : Begun) → lines_of one ≡ lines_of other → one ≡ other) → lines_of after.run.begun ≡ lines_of bus.run.begun → after.run.begun ≡ begun_by wanted text
-run_begun_so wanted text bus after b law same = law after.run.begun bus.run.begun same ∙ run_begun wanted text bus b
-
--- what the units at the start determine
-abbrev pub UnitsDetermine : Type 0
-UnitsDetermine =
-    (wanted : IndAddr) (from : AddressWorld) (events : List AddressEvent) (came : Outcome) → HasThreeTries came → IsFresh from → IsLegal from events → AreCalm from events → RenewsRightly (record_of from events) → SendsRightly (record_of from events) → AcknowledgesRightly (record_of from events)
-    → EndsSo wanted came (counted (record_of from events)) → ComesTo wanted (map shown from.units) (map shown (replay from events).units) came
-
+-- where nothing is lost, nothing disturbs the bus
 abbrev pub QuietTexts : Type 0
 QuietTexts = (from : AddressWorld) (events : List AddressEvent) → FollowsText [] from events → AreCalm from events
-
--- what was told of the record of a bus
-pub record ToldOn (wanted : IndAddr) (after : BusNow) (came : Outcome) : Type 0 where
-  pub three : HasThreeTries came
-  pub renews : WhereTold (λ places. RenewsRightly (entries places)) (story after.run)
-  pub sends : WhereTold (λ places. SendsRightly (entries places)) (story after.run)
-  pub acknowledges : WhereTold (λ places. AcknowledgesRightly (entries places)) (story after.run)
-  pub ended : WhereTold (EndsSo wanted came) (story after.run)
 
 shown_rest : (units : List BusUnit) → map shown (map at_rest units) ≡ units
 shown_rest [] = refl
 shown_rest (u ∷ units) = ap (λ (l : List BusUnit). u ∷ l) (shown_rest units)
 
-determined_on : (wanted : IndAddr) (text : Units) (after : BusNow) (came : Outcome) → UnitsDetermine → QuietTexts → after.run.begun ≡ begun_by wanted text → IsFresh (start after.run) → IsLegal (start after.run) after.run.events → FollowsText after.run.begun.losses (start after.run) after.run.events
-    → ToldOn wanted after came → text.1 ≡ [] → ComesTo wanted text.0 (units_now after.run) came
-determined_on wanted text after came determine quiet begun fresh legal follows told none =
-    let r : List Entry = record_of (start after.run) after.run.events in
-    let back : entries (counted r) ≡ r = entries_counted r in
-    let losses : after.run.begun.losses ≡ [] = ap (λ (z : Begun). z.losses) begun ∙ none in
-    let calm : AreCalm (start after.run) after.run.events = quiet (start after.run) after.run.events (subst (λ (l : List UnitLoss). FollowsText l (start after.run) after.run.events) losses follows) in
-    subst (λ (units : List BusUnit). ComesTo wanted units (units_now after.run) came) (ap (λ (z : Begun). map shown (start_of z).units) begun ∙ shown_rest text.0)
-    (determine wanted (start after.run) after.run.events came told.three fresh legal calm (subst RenewsRightly back (told.renews (counted r) refl)) (subst SendsRightly back (told.sends (counted r) refl)) (subst AcknowledgesRightly back (told.acknowledges (counted r) refl))
-    (told.ended (counted r) refl))
+-- what the units at the start determine
+abbrev pub UnitsDetermine : IndAddr → BusNow → Outcome → Type 0
+UnitsDetermine wanted after came =
+    (from : AddressWorld) (events : List AddressEvent) → told_of after.run ≡ Told from events → AreCalm from events → ComesTo wanted (map shown from.units) (map shown (replay from events).units) came
 
-pub given_sim : (wanted : IndAddr) (text : Units) (bus after : BusNow) (came : Outcome) → BeginsAs wanted (Ok text) bus → ((one other : Begun) → lines_of one ≡ lines_of other → one ≡ other) → UnitsDetermine → QuietTexts → lines_of after.run.begun ≡ lines_of bus.run.begun
+determined_on : (wanted : IndAddr) (text : Units) (after : BusNow) (came : Outcome) → UnitsDetermine wanted after came → QuietTexts → after.run.begun ≡ begun_by wanted text → FollowsText after.run.begun.losses (start after.run) after.run.events → text.1 ≡ [] → ComesTo wanted text.0 (units_now after.run) came
+determined_on wanted text after came determine quiet begun follows none =
+    let losses : after.run.begun.losses ≡ [] = ap (λ (z : Begun). z.losses) begun ∙ none in
+    subst (λ (units : List BusUnit). ComesTo wanted units (units_now after.run) came) (ap (λ (z : Begun). map shown (start_of z).units) begun ∙ shown_rest text.0)
+    (determine (start after.run) after.run.events refl (quiet (start after.run) after.run.events (subst (λ (l : List UnitLoss). FollowsText l (start after.run) after.run.events) losses follows)))
+
+pub given_sim : (wanted : IndAddr) (text : Units) (bus after : BusNow) (came : Outcome) → BeginsAs wanted (Ok text) bus → ((one other : Begun) → lines_of one ≡ lines_of other → one ≡ other) → QuietTexts → lines_of after.run.begun ≡ lines_of bus.run.begun
     → IsFresh (start after.run) → IsLegal (start after.run) after.run.events → FollowsText after.run.begun.losses (start after.run) after.run.events
-    → ((from : AddressWorld) (events : List AddressEvent) → told_of after.run ≡ Told from events → AlwaysKeepsUnits wanted from events) → bus.faults ≡ 0 → ToldOn wanted after came
+    → ((from : AddressWorld) (events : List AddressEvent) → told_of after.run ≡ Told from events → AlwaysKeepsUnits wanted from events) → UnitsDetermine wanted after came → bus.faults ≡ 0
+    → WhereTold (EndsSo wanted came) (story after.run) → WhereTold (λ places. AcknowledgesRightly (entries places)) (story after.run)
     → IfOk came (λ assigned. ¬ Rose bus.faults after.faults → WhereTold (Leaves wanted assigned) (story after.run)) → IfErr came (λ fault. FailsBy fault bus.faults after.faults) → GivesOnBus wanted text after came
-given_sim wanted text bus after came b law determine quiet same fresh legal follows units none told leaves cause =
-    let begun : after.run.begun ≡ begun_by wanted text = run_begun_so wanted text bus after b law same in
+given_sim wanted text bus after came b law quiet same fresh legal follows units determine none ended acknowledges leaves cause =
+    let begun : after.run.begun ≡ begun_by wanted text = law after.run.begun bus.run.begun same ∙ run_begun wanted text bus b in
     record {
       begun = begun;
       fresh = fresh;
       legal = legal;
       follows = subst (λ (losses : List UnitLoss). FollowsText losses (start after.run) after.run.events) (ap (λ (z : Begun). z.losses) begun) follows;
       units = units (start after.run) after.run.events refl;
-      determined = determined_on wanted text after came determine quiet begun fresh legal follows told;
-      over = over_of wanted came bus.faults after.faults (story after.run) none told.ended told.acknowledges leaves cause;
+      determined = determined_on wanted text after came determine quiet begun follows;
+      over = over_of wanted came bus.faults after.faults (story after.run) none ended acknowledges leaves cause;
     }
 
 -- what was judged has begun a bus on which nothing was done

@@ -13,8 +13,10 @@ ghost use Rattle.call_parts.specs.Judged.{Gives as GivesAs, unless_refused};
 ghost use Rattle.knx_top.specs.commands.Assign.{BeginsAs, GivesOr, GivesSim, OverLink, RunsAssign, RunsAssignSim, TellsOutcome, Units, assign_sim_words, assign_sim_words_of, assign_words, assign_words_of, judged_units, tunnel_beside};
 
 use address_commission::{Plain, assign};
-use address_law::{a_text_without_losses_is_calm, the_units_determine_what_comes_of_it};
-use address_sim::{AddressBus, Unit, UnitScript, what_stays_is_all_that_it_began_with};
+use address_sim::{
+    AddressBus, Unit, UnitScript, a_text_without_losses_is_calm,
+    what_stays_is_all_that_it_began_with,
+};
 use address_text::read_units;
 use call_parts::{
     AssignEnd, End, GatewayAddress, Reading, address_in, read_named, read_of, refusal,
@@ -148,7 +150,6 @@ fn give_on<R: Wait>(
 {
     what_stays_is_all_that_it_began_with();
     a_text_without_losses_is_calm();
-    the_units_determine_what_comes_of_it();
     let (bus, came) = assign(rt, bus, wanted);
     bus.keeps();
     *units = bus;

@@ -7,7 +7,7 @@ use Rattle.tunnel_link.specs.Alone.{Each, EndsNone}
 use Rattle.tunnel_link.specs.Goes.{GoesOn}
 use Rattle.tunnel_link.specs.Rights.{WhereTold}
 use Rattle.address_commission.specs.Going.{Going}
-use Rattle.address_commission.specs.Ends.{ClosesSo, LeavesSince, PaceKept}
+use Rattle.address_commission.specs.Calls.{ClosesSo, LeavesSince, PaceKept}
 use Rattle.address_commission.proofs.close.await_response.Given as goal
 
 -- no request is put, and the response is still awaited
