@@ -23,7 +23,7 @@ use Rattle.address_talk.specs.Rounds.{Round, rounds, GoOn, SameRounds}
 use Rattle.address_commission.specs.Listening.{Listens, Begins}
 use Rattle.address_commission.specs.Going.{Going}
 use Rattle.address_law.specs.Calm.{AreCalm}
-use Rattle.address_law.specs.Determined.{ComesTo}
+use Rattle.address_law.specs.Determined.{IsDetermined}
 use Rattle.address_world.specs.Shown.{shown}
 use Rattle.address_talk.proofs.Ends.{all_first, ends_rightly}
 use Rattle.address_talk.specs.Ends.{EndsSo, FailsRightly, HasThreeTries}
@@ -48,8 +48,8 @@ units_kept wanted result k story told ends keeps agrees puts law start events is
 
 pub units_determined : (wanted : IndAddr) (result : Result Assigned AssignFault) (k : Known) (story : Story) (told : AddressStory) → WhereTold (EndsSo wanted result) story → KeepsRecord k story → Agrees told story → HasThreeTries result
     → ((wanted : IndAddr) (start : AddressWorld) (events : List AddressEvent) (came : Result Assigned AssignFault) → HasThreeTries came → IsFresh start → IsLegal start events → AreCalm start events → RenewsRightly (record_of start events) → SendsRightly (record_of start events)
-    → AcknowledgesRightly (record_of start events) → EndsSo wanted came (counted (record_of start events)) → ComesTo wanted (map shown start.units) (map shown (replay start events).units) came)
-    → (start : AddressWorld) (events : List AddressEvent) → told ≡ Told start events → AreCalm start events → ComesTo wanted (map shown start.units) (map shown (replay start events).units) result
+    → AcknowledgesRightly (record_of start events) → EndsSo wanted came (counted (record_of start events)) → IsDetermined wanted (map shown start.units) (map shown (replay start events).units) came)
+    → (start : AddressWorld) (events : List AddressEvent) → told ≡ Told start events → AreCalm start events → IsDetermined wanted (map shown start.units) (map shown (replay start events).units) result
 units_determined wanted result k story told ends keeps agrees three law start events is calm =
     let truly : TellsTruly start events story = subst (λ (z : AddressStory). Agrees z story) is agrees in
     let r : List Entry = record_of start events in

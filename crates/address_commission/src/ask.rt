@@ -7,11 +7,11 @@ ghost use Rattle.address_talk.specs.Ends.{FailsBy};
 ghost use Rattle.address_commission.specs.Going.{AsksOne, Going};
 ghost use Rattle.address_commission.specs.Listening.{IsOut, IsTurnTo, Listens, quiet_after};
 
-use address_talk::AssignFault;
 use crate::ear::Ear;
 use crate::frames::request_of;
 use crate::told::told;
 use crate::wait::wait_out;
+use address_talk::AssignFault;
 use address_world::Asked;
 use knx_model::IndAddr;
 use line_model::Link;

@@ -20,8 +20,8 @@ ghost use Rattle.address_talk.specs.Ends.{ComesLate, FailsBy, FailsSo, LeavesOn}
 ghost use Rattle.address_commission.specs.Going.{Going};
 ghost use Rattle.address_talk.specs.Rounds.{has_lost};
 
-use address_talk::AssignFault;
 use crate::told::told;
+use address_talk::AssignFault;
 use line_model::Link;
 use std::sync::Wait;
 use tunnel_link::{Came, Loss, Tunnel, What};

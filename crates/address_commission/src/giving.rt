@@ -8,18 +8,18 @@ ghost use Rattle.line_model.specs.Renews.{AcknowledgesRightly};
 ghost use Rattle.tunnel_link.specs.Rights.{WhereTold};
 ghost use Rattle.address_world.specs.AddressStory.{Told};
 ghost use Rattle.address_law.specs.Calm.{AreCalm};
-ghost use Rattle.address_law.specs.Determined.{ComesTo};
+ghost use Rattle.address_law.specs.Determined.{IsDetermined};
 ghost use Rattle.address_world.specs.Shown.{shown};
 ghost use Rattle.address_world.specs.AddressWorld.{AddressEvent, AddressWorld, replay};
 ghost use Rattle.address_world.specs.Keeps.{AlwaysKeepsUnits};
 ghost use Rattle.address_talk.specs.Ends.{EndsSo, FailsBy, HasThreeTries, Leaves};
 
-use address_talk::{AssignFault, Assigned};
 use crate::close::close;
 use crate::ear::Ear;
 use crate::open::open;
 use crate::talk::give;
 use address_law::the_units_determine_what_comes_of_it;
+use address_talk::{AssignFault, Assigned};
 use address_world::{AddressLink, requests_are_those_that_were_put, units_keep_their_addresses};
 use knx_model::IndAddr;
 use line_model::Link;
@@ -37,7 +37,7 @@ pub fn assign<R: Wait, L: AddressLink>(
     ensures leaves { IfOk result.1 (λ assigned. ¬ Rose (L.faults link) (L.faults result.0) → WhereTold (Leaves wanted assigned) (L.story result.0)) }
     ensures acknowledges { WhereTold (λ places. AcknowledgesRightly (entries places)) (L.story result.0) }
     ensures units { (start : AddressWorld) (events : List AddressEvent) → L.told result.0 ≡ Told start events → AlwaysKeepsUnits wanted start events }
-    ensures determined { (start : AddressWorld) (events : List AddressEvent) → L.told result.0 ≡ Told start events → AreCalm start events → ComesTo wanted (map shown start.units) (map shown (replay start events).units) result.1 }
+    ensures determined { (start : AddressWorld) (events : List AddressEvent) → L.told result.0 ≡ Told start events → AreCalm start events → IsDetermined wanted (map shown start.units) (map shown (replay start events).units) result.1 }
     ensures cause { IfErr result.1 (λ fault. FailsBy fault (L.faults link) (L.faults result.0)) }
     ensures count { L.faults link ≤ L.faults result.0 }
     ensures script { L.script result.0 ≡ L.script link }

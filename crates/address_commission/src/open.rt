@@ -11,10 +11,10 @@ ghost use Rattle.address_commission.specs.Calls.{TalkGoes};
 ghost use Rattle.address_talk.specs.Rounds.{SameRounds};
 ghost use Rattle.address_commission.specs.declared.ear.Ear.{Ear as HeldEar};
 
-use address_talk::AssignFault;
 use crate::ear::Ear;
 use crate::told::told;
 use crate::turn::{act, poll};
+use address_talk::AssignFault;
 use line_model::{LONGEST_POLL_MS, Link};
 use std::sync::Wait;
 use tunnel_link::Tunnel;

@@ -9,8 +9,8 @@ ghost use Rattle.address_commission.specs.Listening.{Begins, IsOut, Listens, Sea
 ghost use Rattle.address_talk.specs.Rounds.{rounds};
 
 use crate::ask::ask;
-use address_talk::AssignFault;
 use crate::ear::{Ear, Heard};
+use address_talk::AssignFault;
 use address_world::Asked;
 use knx_model::IndAddr;
 use line_model::Link;

@@ -9,9 +9,9 @@ ghost use Rattle.address_commission.specs.Listening.{Begins, FoundSo, IsOut, Lis
 ghost use Rattle.address_talk.specs.Rounds.{rounds};
 
 use crate::ask::ask;
-use address_talk::{AssignFault, Assigned};
 use crate::ear::{Ear, Heard};
 use crate::search::search;
+use address_talk::{AssignFault, Assigned};
 use address_world::Asked;
 use knx_model::IndAddr;
 use line_model::Link;

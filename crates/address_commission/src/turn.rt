@@ -11,9 +11,9 @@ ghost use Rattle.address_talk.specs.Rounds.{SameRounds};
 ghost use Rattle.address_commission.specs.Listening.{AwaitsFor, Listens};
 ghost use Rattle.address_commission.specs.declared.ear.Ear.{Ear as HeldEar};
 
-use address_talk::AssignFault;
 use crate::ear::Ear;
 use crate::told::told;
+use address_talk::AssignFault;
 use line_model::Link;
 use tunnel_link::{Loss, Tunnel};
 

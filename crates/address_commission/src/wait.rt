@@ -9,9 +9,9 @@ ghost use Rattle.address_commission.specs.Calls.{TalkGoes};
 ghost use Rattle.address_talk.specs.Rounds.{SameRounds, rounds};
 ghost use Rattle.address_commission.specs.Listening.{HasWaited, ListensFor};
 
-use address_talk::AssignFault;
 use crate::ear::Ear;
 use crate::turn::{act, poll};
+use address_talk::AssignFault;
 use line_model::{LONGEST_POLL_MS, Link};
 use std::sync::Wait;
 use tunnel_link::Tunnel;

@@ -42,7 +42,7 @@ use Rattle.address_talk.specs.declared.assigned.AssignFault.{AssignFault}
 use Rattle.address_talk.specs.declared.assigned.AssignFault.TheVariants.{TunnelLost, LinkFailed, GatewayRefused, Flooded, NoMemory}
 use Rattle.address_world.specs.Shown.{shown}
 use Rattle.address_law.specs.Calm.{AreCalm}
-use Rattle.address_law.specs.Determined.{ComesTo, Determines, EndsWith, FailsOutside, given as given_unit, left_by}
+use Rattle.address_law.specs.Determined.{IsDetermined, Determines, EndsWith, FailsOutside, given as given_unit, left_by}
 use Rattle.address_law.proofs.Programmed.{given}
 use Rattle.address_law.proofs.Units.{AreAs}
 use Rattle.address_law.proofs.Rides.{AllHeard, Rides, heard_all, is_write, no_write}
@@ -251,12 +251,12 @@ module _ (wanted : IndAddr) (start : AddressWorld) where
     fails_so events (NoMemory want) three c is h = tt
 
   by_came : (events : List AddressEvent) (places : List Placed) (came : Result Assigned AssignFault) → HasThreeTries came → Client events → entries places ≡ record_at start events → TalksRightly wanted places → EndsSo wanted came places
-      → ComesTo wanted (map shown start.units) (map shown (replay start events).units) came
+      → IsDetermined wanted (map shown start.units) (map shown (replay start events).units) came
   by_came events places (Ok assigned) three c is rightly h = answers_so places rightly events assigned h c is
   by_came events places (Err fault) three c is rightly h = fails_so places rightly events fault three c is h
 
   pub law : (events : List AddressEvent) (came : Result Assigned AssignFault) → HasThreeTries came → IsFresh start → IsLegal start events → AreCalm start events → RenewsRightly (record_of start events) → SendsRightly (record_of start events) → AcknowledgesRightly (record_of start events)
-      → EndsSo wanted came (counted (record_of start events)) → ComesTo wanted (map shown start.units) (map shown (replay start events).units) came
+      → EndsSo wanted came (counted (record_of start events)) → IsDetermined wanted (map shown start.units) (map shown (replay start events).units) came
   law events came three f l c renews sends acknowledges h =
       let places : List Placed = counted (record_of start events) in
       let same : entries places ≡ record_at start events = entries_counted (record_of start events) ∙ sym (records start events) in

@@ -269,11 +269,16 @@ module _ (wanted : IndAddr) (start : List UnitState) where
   takes_rides (r ∷ rs) since now then units (Some f) y q h = absurd (let z : y ∷ q ≡ [] = h.1.1.0.empty in cc)
   takes_rides (r ∷ rs) since now then units None y q h =
       let o : Option Ldata = ldata_in (cemi_octets y) in
-      let turn = h.0 in
-      (record { asked = turn.asked; asks = same_frame o r ∙ turn.asks; may = turn.may },
-      (h.1.0,
-      (subst (λ b. Over wanted start turn.asked (Taken o r) b units q then then) (sym (same_base o r rs)) (over_takes turn.asked r (base wanted start (r ∷ rs)) units y q since now then h.1.1.0),
-      subst (λ b. AreAs b units) (sym (same_base o r rs)) h.1.1.1)))
+      let turn = h.0 in (
+        record { asked = turn.asked; asks = same_frame o r ∙ turn.asks; may = turn.may },
+        (
+          h.1.0,
+          (
+            subst (λ b. Over wanted start turn.asked (Taken o r) b units q then then) (sym (same_base o r rs)) (over_takes turn.asked r (base wanted start (r ∷ rs)) units y q since now then h.1.1.0),
+            subst (λ b. AreAs b units) (sym (same_base o r rs)) h.1.1.1,
+          ),
+        ),
+      )
 
   -- ---- time passes, where nothing is on its way and each response is sent
 
@@ -374,14 +379,16 @@ module _ (wanted : IndAddr) (start : List UnitState) where
   responds_over r units now_units q since now at y back held old h =
       let x = responds at units now_units y held old in
       let fewer = x.fewer in
-      let count = h.count in
-      (record {
-        n = suc h.n;
-        riders = more_riders (programmed units) false q h.n y x.source (subst (ReadsAnswer x.source) (sym x.is) (back x.source)) x.among h.riders;
-        count = omega (arith, fewer, count);
-        among = h.among;
-        done = λ some lt. absurd (let none : todo now_units ≡ 0 = (h.done some lt).1 in let z : ⊥ = omega (arith, none, fewer) in z);
-      }, x.held)
+      let count = h.count in (
+        record {
+          n = suc h.n;
+          riders = more_riders (programmed units) false q h.n y x.source (subst (ReadsAnswer x.source) (sym x.is) (back x.source)) x.among h.riders;
+          count = omega (arith, fewer, count);
+          among = h.among;
+          done = λ some lt. absurd (let none : todo now_units ≡ 0 = (h.done some lt).1 in let z : ⊥ = omega (arith, none, fewer) in z);
+        },
+        x.held,
+      )
 
 -- what the client reads of a response
 pub reads_back : (s : IndAddr) → ReadsAnswer s (response s)

@@ -53,6 +53,6 @@ FailsOutside (GatewayRefused three) = ⊥
 FailsOutside Flooded = Unit {0}
 FailsOutside (NoMemory want) = Unit {0}
 
-abbrev pub ComesTo : IndAddr → List BusUnit → List BusUnit → Result Assigned AssignFault → Type 0
-ComesTo wanted start now (Ok assigned) = EndsWith wanted start now assigned
-ComesTo wanted start now (Err fault) = FailsOutside fault
+abbrev pub IsDetermined : IndAddr → List BusUnit → List BusUnit → Result Assigned AssignFault → Type 0
+IsDetermined wanted start now (Ok assigned) = EndsWith wanted start now assigned
+IsDetermined wanted start now (Err fault) = FailsOutside fault

@@ -14,12 +14,12 @@ ghost use Rattle.address_talk.specs.declared.assigned.AssignFault.{AssignFault a
 ghost use Rattle.address_talk.specs.declared.assigned.Assigned.{Assigned as Answer};
 ghost use Rattle.address_world.specs.Shown.{shown};
 ghost use Rattle.address_law.specs.Calm.{AreCalm};
-ghost use Rattle.address_law.specs.Determined.{ComesTo};
+ghost use Rattle.address_law.specs.Determined.{IsDetermined};
 
 /// Over every order of the events of a calm bus, and a client that gives an address as `assign` does: it is told what the units at the start determine, and at
 /// the end just the unit that is to have the wanted address has got it. The channel isn't lost, and no try to get one fails.
 pub fn the_units_determine_what_comes_of_it()
     ensures { (wanted : Address) (start : AddressWorld) (events : List AddressEvent) (came : Result Answer Fault) → HasThreeTries came → IsFresh start → IsLegal start events → AreCalm start events
         → RenewsRightly (record_of start events) → SendsRightly (record_of start events) → AcknowledgesRightly (record_of start events) → EndsSo wanted came (counted (record_of start events))
-        → ComesTo wanted (map shown start.units) (map shown (replay start events).units) came }
+        → IsDetermined wanted (map shown start.units) (map shown (replay start events).units) came }
 {}

@@ -3,7 +3,7 @@ use Rattle.std.proofs.Common.{◌≡◌, ◌≢◌, ℕ, ◌≤◌, ◌∙◌, a
 use Rattle.std.specs.Prelude.{IfErr, IfOk, map}
 use Rattle.address_talk.specs.Ends.{EndsSo, FailsBy, Leaves}
 use Rattle.address_law.specs.Calm.{AreCalm}
-use Rattle.address_law.specs.Determined.{ComesTo}
+use Rattle.address_law.specs.Determined.{IsDetermined}
 use Rattle.address_sim.specs.Driven.{BusNow}
 use Rattle.address_sim.specs.Follows.{FollowsText}
 use Rattle.address_sim.specs.Stays.{lines_of}
@@ -189,12 +189,12 @@ shown_rest (u ∷ units) = ap (λ (l : List BusUnit). u ∷ l) (shown_rest units
 -- what the units at the start determine
 abbrev pub UnitsDetermine : IndAddr → BusNow → Outcome → Type 0
 UnitsDetermine wanted after came =
-    (from : AddressWorld) (events : List AddressEvent) → told_of after.run ≡ Told from events → AreCalm from events → ComesTo wanted (map shown from.units) (map shown (replay from events).units) came
+    (from : AddressWorld) (events : List AddressEvent) → told_of after.run ≡ Told from events → AreCalm from events → IsDetermined wanted (map shown from.units) (map shown (replay from events).units) came
 
-determined_on : (wanted : IndAddr) (text : Units) (after : BusNow) (came : Outcome) → UnitsDetermine wanted after came → QuietTexts → after.run.begun ≡ begun_by wanted text → FollowsText after.run.begun.losses (start after.run) after.run.events → text.1 ≡ [] → ComesTo wanted text.0 (units_now after.run) came
+determined_on : (wanted : IndAddr) (text : Units) (after : BusNow) (came : Outcome) → UnitsDetermine wanted after came → QuietTexts → after.run.begun ≡ begun_by wanted text → FollowsText after.run.begun.losses (start after.run) after.run.events → text.1 ≡ [] → IsDetermined wanted text.0 (units_now after.run) came
 determined_on wanted text after came determine quiet begun follows none =
     let losses : after.run.begun.losses ≡ [] = ap (λ (z : Begun). z.losses) begun ∙ none in
-    subst (λ (units : List BusUnit). ComesTo wanted units (units_now after.run) came) (ap (λ (z : Begun). map shown (start_of z).units) begun ∙ shown_rest text.0)
+    subst (λ (units : List BusUnit). IsDetermined wanted units (units_now after.run) came) (ap (λ (z : Begun). map shown (start_of z).units) begun ∙ shown_rest text.0)
     (determine (start after.run) after.run.events refl (quiet (start after.run) after.run.events (subst (λ (l : List UnitLoss). FollowsText l (start after.run) after.run.events) losses follows)))
 
 pub given_sim : (wanted : IndAddr) (text : Units) (bus after : BusNow) (came : Outcome) → BeginsAs wanted (Ok text) bus → ((one other : Begun) → lines_of one ≡ lines_of other → one ≡ other) → QuietTexts → lines_of after.run.begun ≡ lines_of bus.run.begun

@@ -7,7 +7,7 @@ use Rattle.std.specs.Option.{option_map}
 use Rattle.address_talk.specs.declared.assigned.Assigned.{Assigned}
 use Rattle.address_talk.specs.declared.assigned.AssignFault.{AssignFault}
 use Rattle.address_talk.specs.Ends.{EndsSo, FailsBy, Leaves}
-use Rattle.address_law.specs.Determined.{ComesTo}
+use Rattle.address_law.specs.Determined.{IsDetermined}
 use Rattle.address_sim.specs.Driven.{BusNow}
 use Rattle.address_sim.specs.Follows.{FollowsText}
 use Rattle.address_sim.specs.Told.{Begun, start, story, units_now}
@@ -133,7 +133,7 @@ pub record GivesOnBus (wanted : IndAddr) (text : Units) (after : BusNow) (came :
   pub legal : IsLegal (start after.run) after.run.events
   pub follows : FollowsText text.1 (start after.run) after.run.events
   pub units : AlwaysKeepsUnits wanted (start after.run) after.run.events
-  pub determined : text.1 ≡ [] → ComesTo wanted text.0 (units_now after.run) came
+  pub determined : text.1 ≡ [] → IsDetermined wanted text.0 (units_now after.run) came
   pub over : GivesOver wanted came after.faults (story after.run)
 
 -- memory is wanting before anything is done; or the address was given on the bus, and its units are told as they now are
