@@ -14,6 +14,7 @@ use Rattle.address_world.specs.AddressStory.{Told}
 use Rattle.address_world.specs.AddressWorld.{AddressEvent, AddressWorld, replay}
 use Rattle.address_world.specs.Keeps.{AlwaysKeepsUnits}
 use Rattle.address_world.specs.declared.unit.UnitLoss.{UnitLoss}
+use Rattle.address_sim.specs.Undisturbed.{NothingLost}
 use Rattle.address_text.specs.UnitText.{unit_reading}
 use Rattle.address_world.specs.declared.unit.Unit.{Unit as BusUnit}
 use Rattle.call_words.specs.declared.input_file.InputFile.TheVariants as file
@@ -178,9 +179,12 @@ given_dialled words before after since dials given end count tells once same sti
 run_begun : (wanted : IndAddr) (text : Units) (bus : BusNow) → BeginsAs wanted (Ok text) bus → bus.run.begun ≡ begun_by wanted text
 run_begun wanted text bus b = ap (λ (r : RunNow). r.begun) b.0
 
--- where nothing is lost, nothing disturbs the bus
+-- what the laws of the bus say
+abbrev pub QuietBuses : Type 0
+QuietBuses = (losses : List UnitLoss) (from : AddressWorld) (events : List AddressEvent) → FollowsText losses from events → NothingLost events → AreCalm from events
+
 abbrev pub QuietTexts : Type 0
-QuietTexts = (from : AddressWorld) (events : List AddressEvent) → FollowsText [] from events → AreCalm from events
+QuietTexts = (from : AddressWorld) (events : List AddressEvent) → FollowsText [] from events → NothingLost events
 
 shown_rest : (units : List BusUnit) → map shown (map at_rest units) ≡ units
 shown_rest [] = refl
@@ -191,26 +195,31 @@ abbrev pub UnitsDetermine : IndAddr → BusNow → Outcome → Type 0
 UnitsDetermine wanted after came =
     (from : AddressWorld) (events : List AddressEvent) → told_of after.run ≡ Told from events → AreCalm from events → IsDetermined wanted (map shown from.units) (map shown (replay from events).units) came
 
-determined_on : (wanted : IndAddr) (text : Units) (after : BusNow) (came : Outcome) → UnitsDetermine wanted after came → QuietTexts → after.run.begun ≡ begun_by wanted text → FollowsText after.run.begun.losses (start after.run) after.run.events → text.1 ≡ [] → IsDetermined wanted text.0 (units_now after.run) came
-determined_on wanted text after came determine quiet begun follows none =
-    let losses : after.run.begun.losses ≡ [] = ap (λ (z : Begun). z.losses) begun ∙ none in
-    subst (λ (units : List BusUnit). IsDetermined wanted units (units_now after.run) came) (ap (λ (z : Begun). map shown (start_of z).units) begun ∙ shown_rest text.0)
-    (determine (start after.run) after.run.events refl (quiet (start after.run) after.run.events (subst (λ (l : List UnitLoss). FollowsText l (start after.run) after.run.events) losses follows)))
+lost_nothing : (text : Units) (after : BusNow) → QuietTexts → FollowsText text.1 (start after.run) after.run.events → text.1 ≡ [] → NothingLost after.run.events
+lost_nothing text after texts follows none = texts (start after.run) after.run.events (subst (λ (l : List UnitLoss). FollowsText l (start after.run) after.run.events) none follows)
 
-pub given_sim : (wanted : IndAddr) (text : Units) (bus after : BusNow) (came : Outcome) → BeginsAs wanted (Ok text) bus → ((one other : Begun) → lines_of one ≡ lines_of other → one ≡ other) → QuietTexts → lines_of after.run.begun ≡ lines_of bus.run.begun
+determined_on : (wanted : IndAddr) (text : Units) (after : BusNow) (came : Outcome) → UnitsDetermine wanted after came → QuietBuses → after.run.begun ≡ begun_by wanted text → FollowsText text.1 (start after.run) after.run.events → NothingLost after.run.events
+    → IsDetermined wanted text.0 (units_now after.run) came
+determined_on wanted text after came determine buses begun follows nothing =
+    subst (λ (units : List BusUnit). IsDetermined wanted units (units_now after.run) came) (ap (λ (z : Begun). map shown (start_of z).units) begun ∙ shown_rest text.0)
+    (determine (start after.run) after.run.events refl (buses text.1 (start after.run) after.run.events follows nothing))
+
+pub given_sim : (wanted : IndAddr) (text : Units) (bus after : BusNow) (came : Outcome) → BeginsAs wanted (Ok text) bus → ((one other : Begun) → lines_of one ≡ lines_of other → one ≡ other) → QuietBuses → QuietTexts → lines_of after.run.begun ≡ lines_of bus.run.begun
     → IsFresh (start after.run) → IsLegal (start after.run) after.run.events → FollowsText after.run.begun.losses (start after.run) after.run.events
     → ((from : AddressWorld) (events : List AddressEvent) → told_of after.run ≡ Told from events → AlwaysKeepsUnits wanted from events) → UnitsDetermine wanted after came → bus.faults ≡ 0
     → WhereTold (EndsSo wanted came) (story after.run) → WhereTold (λ places. AcknowledgesRightly (entries places)) (story after.run)
     → IfOk came (λ assigned. ¬ Rose bus.faults after.faults → WhereTold (Leaves wanted assigned) (story after.run)) → IfErr came (λ fault. FailsBy fault bus.faults after.faults) → GivesOnBus wanted text after came
-given_sim wanted text bus after came b law quiet same fresh legal follows units determine none ended acknowledges leaves cause =
+given_sim wanted text bus after came b law buses texts same fresh legal follows units determine none ended acknowledges leaves cause =
     let begun : after.run.begun ≡ begun_by wanted text = law after.run.begun bus.run.begun same ∙ run_begun wanted text bus b in
+    let follows_it : FollowsText text.1 (start after.run) after.run.events = subst (λ (losses : List UnitLoss). FollowsText losses (start after.run) after.run.events) (ap (λ (z : Begun). z.losses) begun) follows in
     record {
       begun = begun;
       fresh = fresh;
       legal = legal;
-      follows = subst (λ (losses : List UnitLoss). FollowsText losses (start after.run) after.run.events) (ap (λ (z : Begun). z.losses) begun) follows;
+      follows = follows_it;
       units = units (start after.run) after.run.events refl;
-      determined = determined_on wanted text after came determine quiet begun follows;
+      nothing_lost = lost_nothing text after texts follows_it;
+      determined = determined_on wanted text after came determine buses begun follows_it;
       over = over_of wanted came bus.faults after.faults (story after.run) none ended acknowledges leaves cause;
     }
 

@@ -14,8 +14,8 @@ ghost use Rattle.knx_top.specs.commands.Assign.{BeginsAs, GivesOr, GivesSim, Ove
 
 use address_commission::{Plain, assign};
 use address_sim::{
-    AddressBus, Unit, UnitScript, a_text_without_losses_is_calm,
-    what_stays_is_all_that_it_began_with,
+    AddressBus, Unit, UnitScript, a_bus_that_loses_nothing_is_calm,
+    a_text_without_losses_loses_nothing, what_stays_is_all_that_it_began_with,
 };
 use address_text::read_units;
 use call_parts::{
@@ -149,7 +149,8 @@ fn give_on<R: Wait>(
     ensures { (text : Units) → BeginsAs wanted (Ok text) bus → GivesSim wanted text units.old units.new result }
 {
     what_stays_is_all_that_it_began_with();
-    a_text_without_losses_is_calm();
+    a_bus_that_loses_nothing_is_calm();
+    a_text_without_losses_loses_nothing();
     let (bus, came) = assign(rt, bus, wanted);
     bus.keeps();
     *units = bus;
