@@ -1,6 +1,6 @@
 -- What the rounds give is what the units determine, where the newest round is heard out.
-use Rattle.std.proofs.Common.{◌≡◌, ◌≢◌, ℕ, suc, ◌+◌, ◌<◌, ◌≤◌, List, [], ◌∷◌, ◌++◌, length, map, Bool, true, false, not, cond, Option, Some, None, refl, sym, ◌∙◌, ap, subst, inl, inr, arith, get_or}
-use Rattle.std.specs.Prelude.{Contains, slice_index_or, ◌==◌, ◌||◌}
+use Rattle.std.proofs.Common.{◌≡◌, ℕ, suc, ◌+◌, ◌≤◌, List, [], ◌∷◌, ◌++◌, length, map, Bool, true, false, not, cond, Some, refl, sym, ◌∙◌, ap, subst, inl, inr, arith, get_or}
+use Rattle.std.specs.Prelude.{Contains, ◌==◌, ◌||◌}
 use Rattle.knx_model.specs.declared.address.IndAddr.{IndAddr}
 use Rattle.knx_model.specs.declared.frames.cemi.Ldata.{Ldata}
 use Rattle.knx_model.specs.ApduReading.{apdu_in, tpdu_in, service_in}
@@ -9,15 +9,15 @@ use Rattle.address_world.specs.declared.asked.Asked.TheVariants.{Read, Connect, 
 use Rattle.address_world.specs.AddressWorld.{UnitState, has_address}
 use Rattle.address_world.specs.Keeps.{frame_of}
 use Rattle.address_talk.specs.Rounds.{Round, is_read, answers}
-use Rattle.address_talk.specs.Talk.{AllSilent, AsksFor, Searches, OneOther, SeveralAnswer, MayAsk, Writes, Gives, NobodyAnswers, HasItAlready, ManyAnswer, ManyAnswerLate, AnotherHasIt, HasItNow, IsntSure}
+use Rattle.address_talk.specs.Talk.{AllSilent, AsksFor, Searches, SeveralAnswer, MayAsk, Writes, Gives, NobodyAnswers, HasItAlready, ManyAnswer, ManyAnswerLate, AnotherHasIt, HasItNow, IsntSure}
 use Rattle.address_talk.specs.declared.assigned.Assigned.{Assigned}
-use Rattle.address_talk.specs.declared.assigned.Assigned.TheVariants.{Done, NoUnit, Several, Taken, Unconfirmed}
+use Rattle.address_talk.specs.declared.assigned.Assigned.TheVariants.{Done, Several}
 use Rattle.address_world.specs.declared.unit.Unit.{Unit as BusUnit}
 use Rattle.address_world.specs.Shown.{shown}
 use Rattle.address_law.specs.Determined.{Determines, NobodyIs, SeveralAre, HasIt, GetsIt, AnotherHasIt as HasAnother, programmed as programmed_units, is_there}
 use Rattle.address_law.proofs.Programmed.{programmed, given}
 use Rattle.address_law.proofs.Units.{AreAs, IsIn, the_only}
-use Rattle.address_law.proofs.Rides.{AllIn, AllHeard, Past, Turn, Whole, base, verdict, is_write, base_on, silent_base, written_base, write_is}
+use Rattle.address_law.proofs.Rides.{AllIn, Past, Whole, base, base_on, silent_base, written_base}
 
 -- ---- what was asked is told by the frame
 

@@ -3,10 +3,9 @@ use Rattle.std.proofs.Common.{◌≡◌, ℕ, ◌⊎◌, inl, inr, List, [], ◌
 use Rattle.std.specs.Prelude.{◌||◌, reverse}
 use Rattle.std.proofs.lemmas.List.{length-reverse}
 use Rattle.knx_model.specs.declared.address.IndAddr.{IndAddr}
-use Rattle.knx_model.specs.declared.frames.cemi.Ldata.{Ldata}
 use Rattle.line_model.specs.declared.fault.Try.{Try}
 use Rattle.line_model.proofs.Entries.{entries_counted}
-use Rattle.line_model.specs.ClientView.{Deed, Puts, Takes, Loses, Nothing, ClientChannel, Lost, channel, deed}
+use Rattle.line_model.specs.ClientView.{Deed, Puts, Takes, Loses, Nothing, channel, deed}
 use Rattle.line_model.specs.Faults.{tries}
 use Rattle.line_model.specs.Haste.{KeepsPaces}
 use Rattle.line_model.specs.Leaves.{StaysOpen}
@@ -15,7 +14,7 @@ use Rattle.line_model.specs.Moments.{moments, is_loss}
 use Rattle.line_model.specs.Record.{Item, Entry, Placed, counted, entries, entry, item_of, noted, tunnel_record}
 use Rattle.line_model.specs.Renews.{RenewsRightly, AcknowledgesRightly}
 use Rattle.line_model.specs.Sendings.{SendsRightly}
-use Rattle.line_model.specs.Tunnel.{Tunnel, TunnelEvent, Commissions, fresh}
+use Rattle.line_model.specs.Tunnel.{Tunnel, Commissions, fresh}
 use Rattle.line_model.specs.Tunnel as tunnel
 use Rattle.calm_law.specs.CalmTunnel as calm
 use Rattle.calm_law.specs.CalmTunnel.{IsKept}
@@ -29,7 +28,7 @@ use Rattle.address_world.specs.declared.unit.Unit.{Unit as BusUnit}
 use Rattle.address_world.specs.AddressWorld.{AddressWorld, AddressEvent, UnitState, me, tunnel_event, tunnel_events, replay}
 use Rattle.address_world.specs.AddressLegal.{IsFresh, IsLegal}
 use Rattle.address_world.specs.AddressStory.{record_of}
-use Rattle.address_world.specs.Keeps.{AllAskFirst, PutsOnly, KeepsUnits}
+use Rattle.address_world.specs.Keeps.{AllAskFirst, PutsOnly}
 use Rattle.address_world.proofs.Always.{kept_since}
 use Rattle.address_world.proofs.Requests.{puts_only}
 use Rattle.address_talk.proofs.Ends.{all_first, ends_rightly}
@@ -45,8 +44,8 @@ use Rattle.address_law.specs.Calm.{AreCalm}
 use Rattle.address_law.specs.Determined.{IsDetermined, Determines, EndsWith, FailsOutside, given as given_unit, left_by}
 use Rattle.address_law.proofs.Programmed.{given}
 use Rattle.address_law.proofs.Units.{AreAs}
-use Rattle.address_law.proofs.Rides.{AllHeard, Rides, heard_all, is_write, no_write}
-use Rattle.address_law.proofs.Talks.{TalksSo, rounds_of, rounds_are, talks_so, talks_before, puts_rightly}
+use Rattle.address_law.proofs.Rides.{AllHeard, heard_all, is_write, no_write}
+use Rattle.address_law.proofs.Talks.{TalksSo, rounds_of, rounds_are, talks_so, puts_rightly}
 use Rattle.address_law.proofs.Riding.{Now}
 use Rattle.address_law.proofs.Living.{record_at, records, Alive, alive, tunnel_calm, tunnel_legal, stays_before}
 use Rattle.address_law.proofs.Parts.{Part, part_of, legal_before, calm_before, so_before}

@@ -1,25 +1,24 @@
 -- While the channel isn't asked to end, the tunnel lives and what rides on it is as the rounds say, at every moment of a calm bus.
-use Rattle.std.proofs.Common.{◌≡◌, ◌≢◌, ℕ, zero, suc, ◌⊎◌, inl, inr, List, [], ◌∷◌, length, true, not, Option, Some, None, refl, sym, ◌∙◌, ap, subst, arith}
+use Rattle.std.proofs.Common.{◌≡◌, ℕ, zero, suc, inl, inr, List, [], ◌∷◌, length, true, not, Option, Some, None, refl, sym, ◌∙◌, ap, subst, arith}
 use Rattle.std.specs.Prelude.{◌||◌}
 use Rattle.std.specs.List.{AllByRecursion}
 use Rattle.knx_model.specs.declared.address.IndAddr.{IndAddr}
 use Rattle.knx_model.specs.declared.frames.cemi.Ldata.{Ldata}
-use Rattle.knx_model.specs.Apdu.{most_octets}
 use Rattle.knx_model.specs.ApduReading.{option_map}
 use Rattle.knx_model.specs.DeviceSending.{first_frame}
 use Rattle.line_model.specs.Leaves.{StaysOpen}
 use Rattle.line_model.specs.LinkStory.{newest_time}
-use Rattle.line_model.specs.Record.{Item, Entry, entry, item_of, noted, tunnel_record}
+use Rattle.line_model.specs.Record.{Item, Entry, entry, item_of, noted}
 use Rattle.line_model.specs.ClientView.{channel, deed}
 use Rattle.line_model.specs.Tunnel as tunnel
-use Rattle.line_model.specs.Tunnel.{Tunnel, TunnelEvent, Commissions, fresh}
-use Rattle.line_model.specs.World.{AtGateway, Comes, heard, on_bus}
+use Rattle.line_model.specs.Tunnel.{Tunnel, TunnelEvent, Commissions}
+use Rattle.line_model.specs.World.{Comes, heard, on_bus}
 use Rattle.calm_law.specs.CalmTunnel as calm
 use Rattle.calm_law.specs.CalmTunnel.{Confirms, IsIndication}
 use Rattle.calm_law.proofs.Joined.{step_now}
 use Rattle.calm_law.proofs.Law.{Inv, Keeps, RidesOn, begins, keeps_before, may_of, step_kept}
 use Rattle.calm_law.proofs.State.{Going, Lives}
-use Rattle.address_world.specs.AddressWorld.{AddressWorld, AddressEvent, UnitState, Send, Renew, Up, UpRefused, Down, LoseUp, LoseDown, Bus, Respond, GwRepeat, GwClose, Pass, me, next_frame, confirmation, carried, has_address, oldest, oldest_at, response, tunnel_event, tunnel_events, units_after, step, replay}
+use Rattle.address_world.specs.AddressWorld.{AddressWorld, AddressEvent, UnitState, Send, Renew, Up, UpRefused, Down, LoseUp, LoseDown, Bus, Respond, GwRepeat, GwClose, Pass, me, carried, has_address, oldest, oldest_at, response, tunnel_event, tunnel_events, units_after, replay}
 use Rattle.address_world.specs.AddressLegal.{IsFresh, IsLegal, MayHappen}
 use Rattle.address_world.specs.AddressStory.{record_of}
 use Rattle.address_law.specs.Calm.{AreCalm, IsCalm}

@@ -1,5 +1,5 @@
 -- The events up to a moment of the record.
-use Rattle.std.proofs.Common.{◌≡◌, ℕ, List, [], ◌∷◌, ◌++◌, map, Option, Some, None, refl, sym, ◌∙◌, ap, subst}
+use Rattle.std.proofs.Common.{◌≡◌, ℕ, List, [], ◌∷◌, ◌++◌, Option, Some, None, refl, ◌∙◌, ap}
 use Rattle.line_model.specs.Record.{Item, Entry, Placed, entry, entries, item_of, noted}
 use Rattle.address_world.specs.AddressWorld.{AddressWorld, AddressEvent, tunnel_event, replay}
 use Rattle.address_world.specs.AddressLegal.{IsLegal}

@@ -1,5 +1,5 @@
 -- The units in programming mode, and what giving them an address makes of them, with the responses that they have not sent.
-use Rattle.std.specs.Prelude.{◌≡◌, List, [], ◌∷◌, if◌then◌else◌}
+use Rattle.std.specs.Prelude.{List, [], ◌∷◌, if◌then◌else◌}
 use Rattle.knx_model.specs.declared.address.IndAddr.{IndAddr}
 use Rattle.address_world.specs.AddressWorld.{UnitState}
 

@@ -1,7 +1,7 @@
 -- What rides on the tunnel while an address is given on a calm bus: the client's frame that isn't over the bus yet, the frames on their way to the client, and
 -- the responses that aren't sent yet, by the rounds of the talk. Each response belongs to a unit in programming mode, and of a read that is heard out
 -- all have come.
-use Rattle.std.proofs.Common.{◌≡◌, ◌≢◌, ℕ, suc, ◌+◌, ◌<◌, ◌≤◌, ◌⊎◌, inl, inr, List, [], ◌∷◌, ◌++◌, length, map, Bool, true, false, not, cond, Option, Some, None, refl, sym, ◌∙◌, ap, subst, arith}
+use Rattle.std.proofs.Common.{◌≡◌, ◌≢◌, ℕ, suc, ◌+◌, ◌<◌, ◌⊎◌, inl, inr, List, [], ◌∷◌, ◌++◌, length, map, Bool, true, false, not, cond, Option, Some, None, refl, sym, ◌∙◌, ap, subst, arith}
 use Rattle.std.specs.Prelude.{◌||◌, ◌==◌}
 use Rattle.knx_model.specs.declared.address.IndAddr.{IndAddr}
 use Rattle.knx_model.specs.declared.frames.cemi.Ldata.{Ldata}
@@ -18,9 +18,9 @@ use Rattle.address_world.specs.declared.asked.Asked.TheVariants.{Read, Connect, 
 use Rattle.address_world.specs.AddressWorld.{UnitState, all_get, broadcast, changed, has_address, oldest_at, response, sends}
 use Rattle.address_world.specs.Keeps.{frame_of}
 use Rattle.address_talk.specs.Rounds.{Round, begun, on_newest, answer_in, confirmed_by, and_answer, with_frame}
-use Rattle.address_talk.specs.Talk.{AllSilent, AsksFor, MayAsk, Writes, HeardOutBy, IsHeardOut, listening_wait}
+use Rattle.address_talk.specs.Talk.{AllSilent, AsksFor, MayAsk, Writes, HeardOutBy, IsHeardOut}
 use Rattle.address_law.proofs.Programmed.{programmed, given}
-use Rattle.address_law.proofs.Units.{AreAs, IsIn, Responds, todo, reads as reads_unit, get_read, get_write, get_connect, get_disconnect, read_as, write_as, responds}
+use Rattle.address_law.proofs.Units.{AreAs, IsIn, todo, reads as reads_unit, get_read, get_write, get_connect, get_disconnect, read_as, write_as, responds}
 
 -- ---- the units that a round finds
 

@@ -1,7 +1,6 @@
 -- What rides on the tunnel goes on as the rounds do, event by event, where nothing disturbs it.
-use Rattle.std.proofs.Common.{◌≡◌, ◌≢◌, ℕ, suc, ◌+◌, ◌<◌, ◌≤◌, ◌⊎◌, inl, inr, List, [], ◌∷◌, ◌++◌, length, Bool, true, false, not, cond, Option, Some, None, refl, sym, ◌∙◌, ap, subst, arith}
+use Rattle.std.proofs.Common.{◌≡◌, ◌≢◌, ℕ, ◌+◌, ◌<◌, ◌≤◌, ◌⊎◌, inl, inr, List, [], ◌∷◌, ◌++◌, length, Bool, true, false, not, cond, Option, Some, None, refl, sym, ◌∙◌, ap, subst, arith}
 use Rattle.std.specs.Prelude.{slice_get, take, ◌||◌}
-use Rattle.std.specs.List.{AllByRecursion}
 use Rattle.knx_model.specs.declared.address.IndAddr.{IndAddr}
 use Rattle.knx_model.specs.declared.frames.cemi.Ldata.{Ldata}
 use Rattle.knx_model.specs.declared.frames.cemi.LdataCode.TheVariants.{Con}
@@ -10,14 +9,14 @@ use Rattle.knx_model.specs.ApduReading.{option_map}
 use Rattle.knx_model.specs.DeviceSending.{first_frame}
 use Rattle.line_law.proofs.ReadBack.{written_in}
 use Rattle.line_model.specs.Asks.{HasPlace}
-use Rattle.line_model.specs.Reading.{ldata_in, RequestFrame, request_in}
-use Rattle.line_model.specs.ChannelLost.{is_lost, is_new_request, delivers, expected, last_frame}
+use Rattle.line_model.specs.Reading.{RequestFrame, request_in}
+use Rattle.line_model.specs.ChannelLost.{is_lost, is_new_request, last_frame}
 use Rattle.line_model.specs.LinkStory.{newest_time}
 use Rattle.line_model.specs.Network.{Sent}
 use Rattle.line_model.specs.Record.{Item, Put, Renewed, Got, Quiet, Entry, entry, noted, got, item_of, put_in, is_got, is_renewal}
-use Rattle.line_model.specs.ClientView.{ClientChannel, Fresh, Sought, RefusedBy, Unanswered, Open, Lost, Deed, Puts, Takes, Loses, Nothing, deed_of, or_takes, deed_in, counts, as_counted, channel, deed, after_entry}
+use Rattle.line_model.specs.ClientView.{ClientChannel, Fresh, Sought, RefusedBy, Unanswered, Open, Lost, Deed, Puts, Takes, Loses, Nothing, deed_of, or_takes, as_counted, channel, deed}
 use Rattle.line_model.specs.Tunnel as tunnel
-use Rattle.line_model.specs.Tunnel.{Tunnel, TunnelEvent}
+use Rattle.line_model.specs.Tunnel.{Tunnel}
 use Rattle.line_model.specs.World.{AtGateway, Comes, heard, on_bus}
 use Rattle.calm_law.proofs.Joined.{fresh_before}
 use Rattle.calm_law.proofs.Law.{RidesOn}
@@ -27,7 +26,7 @@ use Rattle.address_world.specs.declared.asked.Asked.TheVariants.{Read, Connect, 
 use Rattle.address_world.specs.AddressWorld.{AddressWorld, AddressEvent, UnitState, Send, Renew, Up, UpRefused, Down, LoseUp, LoseDown, Bus, Respond, GwRepeat, GwClose, Pass, me, next_frame, has_address, confirmation, carried, carried_to, changed, oldest_at, sends, tunnel_event, units_after}
 use Rattle.address_world.specs.AddressLegal.{UnitsAllow}
 use Rattle.address_world.specs.Keeps.{frame_of}
-use Rattle.address_talk.specs.Rounds.{Round, after_deed, quiet_since, with_frame}
+use Rattle.address_talk.specs.Rounds.{Round, after_deed, quiet_since}
 use Rattle.address_talk.specs.Talk.{AsksFor}
 use Rattle.address_law.specs.Calm.{AllSent, IsCalm}
 use Rattle.address_law.proofs.Talks.{rounds_of, DoesSo}

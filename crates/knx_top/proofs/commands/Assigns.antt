@@ -28,7 +28,6 @@ use Rattle.line_model.specs.Record.{entries}
 use Rattle.line_model.specs.Renews.{AcknowledgesRightly}
 use Rattle.tunnel_link.specs.Rights.{WhereTold}
 use Rattle.call_parts.specs.Ending.{Is, StopsFor, report_in, wanting}
-use Rattle.call_parts.specs.Given.{EndsAs}
 use Rattle.call_parts.specs.Input.{IsRead, OnlyRose, failed, fault_in, first_some, octets_of}
 use Rattle.call_parts.specs.Judged.{read_of, unless_refused}
 use Rattle.call_parts.specs.Stops.{text_refused}
