@@ -23,15 +23,16 @@ use Rattle.tunnel_link.specs.Paces.{TakesNoTime}
 use Rattle.address_world.specs.declared.asked.Asked.{Asked}
 use Rattle.address_world.specs.declared.asked.Asked.TheVariants.{Read, Connect, Disconnect, Write}
 use Rattle.address_world.specs.Keeps.{frame_of}
-use Rattle.address_commission.specs.declared.assigned.AssignFault.{AssignFault}
+use Rattle.address_talk.specs.declared.assigned.AssignFault.{AssignFault}
 use Rattle.address_commission.specs.declared.ear.Ear.{Ear}
 use Rattle.address_commission.specs.declared.ear.Heard.TheVariants as ear
-use Rattle.address_commission.specs.Rounds.{Round, begun, rounds, is_read, answers, quiet_since, has_lost}
-use Rattle.address_commission.specs.Talk.{MayAsk, ReadsFirst, Connects, Disconnects, Writes, ReadsLast, AsksRightly, DoesRightly, TalksRightly, HeardOut, HeardOutBy, listening_wait}
-use Rattle.address_commission.specs.Pace.{Paced}
-use Rattle.address_commission.specs.Going.{Going, GoOn, SameRounds, OneMore, AsksOne}
-use Rattle.address_commission.specs.Listening.{HeardSo, HearsRounds, Stands, Listens, HasWaited, IsTurnTo, IsOut, ListensFor, AwaitsFor, quiet_after}
-use Rattle.address_commission.specs.Ends.{FailsSo, ToldAs, CausedBy, AsksGoes, TalkFails, TalkGoes}
+use Rattle.address_talk.specs.Rounds.{Round, begun, rounds, is_read, answers, quiet_since, has_lost, GoOn, SameRounds}
+use Rattle.address_talk.specs.Talk.{MayAsk, ReadsFirst, Connects, Disconnects, Writes, ReadsLast, AsksRightly, DoesRightly, TalksRightly, HeardOut, HeardOutBy, listening_wait}
+use Rattle.address_talk.specs.Pace.{Paced}
+use Rattle.address_commission.specs.Going.{Going, OneMore, AsksOne}
+use Rattle.address_commission.specs.Listening.{HeardSo, HearsRounds, Listens, HasWaited, IsTurnTo, IsOut, ListensFor, AwaitsFor, quiet_after}
+use Rattle.address_talk.specs.Ends.{Stands, FailsSo}
+use Rattle.address_commission.specs.Calls.{ToldAs, CausedBy, AsksGoes, TalkFails, TalkGoes}
 use Rattle.address_commission.proofs.Calls.{paced_on, paced_so_far}
 use Rattle.address_commission.proofs.Folds.{NoGot, quiet_on, count_on}
 use Rattle.address_commission.proofs.Steps.{step_of}

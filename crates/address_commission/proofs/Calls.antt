@@ -18,15 +18,16 @@ use Rattle.tunnel_link.specs.Alone.{Each, EndsNone, LeavesAlone}
 use Rattle.tunnel_link.specs.Goes.{GoesOn}
 use Rattle.tunnel_link.specs.Paces.{TakesNoTime, BeatsInTime, PollsWithin}
 use Rattle.tunnel_link.specs.Rights.{at_most_64_bits}
-use Rattle.address_commission.specs.declared.assigned.AssignFault.{AssignFault}
-use Rattle.address_commission.specs.declared.assigned.AssignFault.TheVariants.{TunnelLost, LinkFailed, GatewayRefused, Flooded, NoMemory}
+use Rattle.address_talk.specs.declared.assigned.AssignFault.{AssignFault}
+use Rattle.address_talk.specs.declared.assigned.AssignFault.TheVariants.{TunnelLost, LinkFailed, GatewayRefused, Flooded, NoMemory}
 use Rattle.address_commission.specs.declared.ear.Ear.{Ear}
-use Rattle.address_commission.specs.Rounds.{rounds}
-use Rattle.address_commission.specs.Talk.{TalksRightly}
-use Rattle.address_commission.specs.Going.{Going, SameRounds}
+use Rattle.address_talk.specs.Rounds.{rounds, SameRounds}
+use Rattle.address_talk.specs.Talk.{TalksRightly}
+use Rattle.address_commission.specs.Going.{Going}
 use Rattle.address_commission.specs.Listening.{AwaitsFor, HearsWhat, Listens}
-use Rattle.address_commission.specs.Ends.{FailsSo, FailsRightly, ToldAs, EndsFor, TalkGoes}
-use Rattle.address_commission.specs.Pace.{Paced, PacedUntil}
+use Rattle.address_talk.specs.Ends.{FailsSo, FailsRightly}
+use Rattle.address_commission.specs.Calls.{ToldAs, EndsFor, TalkGoes}
+use Rattle.address_talk.specs.Pace.{Paced, PacedUntil}
 use Rattle.address_commission.proofs.Exacts.{is_exact}
 use Rattle.address_commission.proofs.Folds.{talks_on, puts_none}
 use Rattle.address_commission.proofs.Heard.{go_same, go_on}

@@ -30,13 +30,14 @@ use Rattle.tunnel_link.specs.Rights.{FailsWhere}
 use Rattle.tunnel_link.proofs.Acting.{grows_then}
 use Rattle.tunnel_link.proofs.SeekKept.{grows_as}
 use Rattle.tunnel_link.proofs.Stories.{goes_again}
-use Rattle.address_commission.specs.declared.assigned.Assigned.{Assigned}
-use Rattle.address_commission.specs.declared.assigned.AssignFault.{AssignFault}
-use Rattle.address_commission.specs.declared.assigned.AssignFault.TheVariants as fails
-use Rattle.address_commission.specs.Rounds.{Round, after_deed, rounds, has_lost}
-use Rattle.address_commission.specs.Talk.{TalksRightly}
-use Rattle.address_commission.specs.Going.{Going, GoOn, SameRounds}
-use Rattle.address_commission.specs.Ends.{Answered, AnsweredBy, ClosesSo, ComesLate, EndsOnce, EndsSo, FailsBy, FailsSo, HasAwaited, Leaves as LeavesAnswered, LeavesOn, LeavesSince, PaceKept, ToldAs, fault_of}
+use Rattle.address_talk.specs.declared.assigned.Assigned.{Assigned}
+use Rattle.address_talk.specs.declared.assigned.AssignFault.{AssignFault}
+use Rattle.address_talk.specs.declared.assigned.AssignFault.TheVariants as fails
+use Rattle.address_talk.specs.Rounds.{Round, after_deed, rounds, has_lost, GoOn, SameRounds}
+use Rattle.address_talk.specs.Talk.{TalksRightly}
+use Rattle.address_commission.specs.Going.{Going}
+use Rattle.address_talk.specs.Ends.{Answered, AnsweredBy, ComesLate, EndsOnce, EndsSo, FailsBy, FailsSo, Leaves as LeavesAnswered, LeavesOn}
+use Rattle.address_commission.specs.Calls.{ClosesSo, HasAwaited, LeavesSince, PaceKept, ToldAs, fault_of}
 use Rattle.std.specs.Prelude.{IfErr, OnOk}
 use Rattle.address_commission.proofs.Leaving.{awaits_after, request_left}
 use Rattle.address_commission.proofs.Exacts.{told_too}

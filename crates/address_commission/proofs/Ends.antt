@@ -1,50 +1,36 @@
 -- The whole of it: how it ends, and what it keeps of the units.
-use Rattle.std.proofs.Common.{◌≡◌, List, [], ◌∷◌, Some, None, Result, Ok, Err, refl, sym, ◌∙◌, ap, subst, inl, inr, arith}
+use Rattle.std.proofs.Common.{◌≡◌, List, [], ◌∷◌, map, Some, None, Result, Err, refl, sym, ◌∙◌, ap, subst, inl, arith}
 use Rattle.knx_model.specs.declared.address.IndAddr.{IndAddr}
 use Rattle.line_model.specs.Asks.{HasPlace}
 use Rattle.line_model.specs.Moments.{moments}
 use Rattle.line_model.specs.Record.{Entry, Placed, entries, counted, placed}
+use Rattle.line_model.specs.ClientView.{channel}
+use Rattle.line_model.specs.Renews.{AcknowledgesRightly, RenewsRightly}
 use Rattle.line_model.specs.LinkStory.{Story, Untold, Recorded, Full, Exact, Running, IsNewLink}
-use Rattle.line_model.specs.ClientView.{Deed, Puts, Takes, Loses, Nothing, channel, deed}
-use Rattle.line_model.specs.Renews.{AcknowledgesRightly}
 use Rattle.line_model.specs.Sendings.{SendsRightly}
 use Rattle.line_model.proofs.Entries.{entries_counted}
 use Rattle.tunnel_link.specs.declared.known.Known.{Known}
 use Rattle.tunnel_link.specs.Rights.{WhereTold, KeepsRecord}
-use Rattle.address_world.specs.AddressWorld.{AddressWorld, AddressEvent}
-use Rattle.address_world.specs.AddressLegal.{IsFresh}
+use Rattle.address_world.specs.AddressWorld.{AddressWorld, AddressEvent, replay}
+use Rattle.address_world.specs.AddressLegal.{IsFresh, IsLegal}
 use Rattle.address_world.specs.AddressStory.{AddressStory, Told, Agrees, TellsTruly, record_of}
-use Rattle.address_world.specs.Keeps.{AsksFirst, AllAskFirst, PutsOnly, AlwaysKeepsUnits}
-use Rattle.address_commission.specs.declared.assigned.Assigned.{Assigned}
-use Rattle.address_commission.specs.declared.assigned.AssignFault.{AssignFault}
-use Rattle.address_commission.specs.Talk.{DoesRightly, TalksRightly}
+use Rattle.address_world.specs.Keeps.{AllAskFirst, PutsOnly, AlwaysKeepsUnits}
+use Rattle.address_talk.specs.declared.assigned.Assigned.{Assigned}
+use Rattle.address_talk.specs.declared.assigned.AssignFault.{AssignFault}
 use Rattle.address_commission.specs.declared.ear.Ear.{Ear}
 use Rattle.address_commission.specs.declared.ear.Heard.TheVariants as ear
-use Rattle.address_commission.specs.Rounds.{Round, rounds}
+use Rattle.address_talk.specs.Rounds.{Round, rounds, GoOn, SameRounds}
 use Rattle.address_commission.specs.Listening.{Listens, Begins}
-use Rattle.address_commission.specs.Going.{Going, GoOn, SameRounds}
-use Rattle.address_commission.specs.Ends.{EndsSo, FailsRightly}
-use Rattle.address_commission.proofs.Exacts.{told_too}
+use Rattle.address_commission.specs.Going.{Going}
 use Rattle.address_commission.specs.Exact.{WhereExact, exact_places_in}
-
--- ---- each request that was put is one of the three
-
-first_by : (wanted : IndAddr) (older : List Placed) (d : Deed) → DoesRightly wanted older d → AsksFirst wanted d
-first_by wanted older (Puts cemi) h = λ frame e. (h.asked, let q : Some frame ≡ Some _ = sym e ∙ h.reads in cc)
-first_by wanted older (Takes cemi) h = tt
-first_by wanted older Loses h = tt
-first_by wanted older Nothing h = tt
-
-pub all_first : (wanted : IndAddr) (places : List Placed) → TalksRightly wanted places → AllAskFirst wanted (entries places)
-all_first wanted [] h = tt
-all_first wanted (p ∷ older) h = (first_by wanted older (deed (channel (entries older)) p.what) h.0, all_first wanted older h.1)
+use Rattle.address_commission.proofs.Exacts.{told_too}
+use Rattle.address_law.specs.Calm.{AreCalm}
+use Rattle.address_law.specs.Determined.{IsDetermined}
+use Rattle.address_world.specs.Shown.{shown}
+use Rattle.address_talk.proofs.Ends.{all_first, ends_rightly}
+use Rattle.address_talk.specs.Ends.{EndsSo, FailsRightly, HasThreeTries}
 
 -- ---- how it ends
-
-pub ends_rightly : (wanted : IndAddr) (result : Result Assigned AssignFault) (places : List Placed) → EndsSo wanted result places → TalksRightly wanted places
-ends_rightly wanted (Ok assigned) places h = h.rightly
-ends_rightly wanted (Err fault) places (inl h) = h.rightly
-ends_rightly wanted (Err fault) places (inr h) = h.answered.rightly
 
 pub fails_before : (wanted : IndAddr) (why : AssignFault) (t : Story) → WhereExact (FailsRightly wanted why) t → WhereExact (EndsSo wanted (Err why)) t
 fails_before wanted why t h new p = inl (h new p)
@@ -61,6 +47,18 @@ units_kept wanted result k story told ends keeps agrees puts law start events is
     let first : AllAskFirst wanted (record_of start events) = subst (AllAskFirst wanted) all (all_first wanted (counted (record_of start events)) (ends_rightly wanted result (counted (record_of start events)) (ends (counted (record_of start events)) places))) in
     let sends : SendsRightly (record_of start events) = subst SendsRightly all (keeps (counted (record_of start events)) (told_too story (counted (record_of start events)) places)).right.sends in
     law start events truly.fresh (puts (record_of start events) sends first)
+
+pub units_determined : (wanted : IndAddr) (result : Result Assigned AssignFault) (k : Known) (story : Story) (told : AddressStory) → WhereExact (EndsSo wanted result) story → KeepsRecord k story → Agrees told story → HasThreeTries result
+    → ((wanted : IndAddr) (start : AddressWorld) (events : List AddressEvent) (came : Result Assigned AssignFault) → HasThreeTries came → IsFresh start → IsLegal start events → AreCalm start events → RenewsRightly (record_of start events) → SendsRightly (record_of start events)
+    → AcknowledgesRightly (record_of start events) → EndsSo wanted came (counted (record_of start events)) → IsDetermined wanted (map shown start.units) (map shown (replay start events).units) came)
+    → (start : AddressWorld) (events : List AddressEvent) → told ≡ Told start events → AreCalm start events → IsDetermined wanted (map shown start.units) (map shown (replay start events).units) result
+units_determined wanted result k story told ends keeps agrees three law start events is calm =
+    let truly : TellsTruly start events story = subst (λ (z : AddressStory). Agrees z story) is agrees in
+    let r : List Entry = record_of start events in
+    let places : exact_places_in story ≡ Some (counted r) = ap exact_places_in truly.recorded in
+    let all : entries (counted r) ≡ r = entries_counted r in
+    let right = (keeps (counted r) (told_too story (counted r) places)).right in
+    law wanted start events result three truly.fresh truly.legal calm (subst RenewsRightly all right.renews) (subst SendsRightly all right.sends) (subst AcknowledgesRightly all right.acknowledges) (ends (counted r) places)
 
 pub acknowledged : (k : Known) (story : Story) → KeepsRecord k story → WhereTold (λ places. AcknowledgesRightly (entries places)) story
 acknowledged k story keeps places e = (keeps places e).right.acknowledges

@@ -8,8 +8,8 @@ use Rattle.line_model.specs.Faults.{is_counted, datagrams_taken}
 use Rattle.line_model.specs.Moments.{Moment, is_loss}
 use Rattle.line_model.specs.Signs.{Every}
 use Rattle.tunnel_link.specs.Adds.{IsNothing, PutsNone, One, moments_on}
-use Rattle.address_commission.specs.Rounds.{Round, after_deed, rounds, quiet_since, has_lost}
-use Rattle.address_commission.specs.Talk.{DoesRightly, TalksRightly}
+use Rattle.address_talk.specs.Rounds.{Round, after_deed, rounds, quiet_since, has_lost}
+use Rattle.address_talk.specs.Talk.{DoesRightly, TalksRightly}
 
 -- ---- rounds, and losses
 

@@ -6,17 +6,17 @@ use Rattle.line_model.specs.Record.{Placed}
 use Rattle.line_model.specs.LinkStory.{Story}
 use Rattle.line_model.specs.Moments.{moments}
 use Rattle.address_world.specs.declared.asked.Asked.TheVariants.{Read, Connect, Disconnect, Write}
-use Rattle.address_commission.specs.declared.assigned.AssignFault.{AssignFault}
-use Rattle.address_commission.specs.declared.assigned.Assigned.{Assigned}
-use Rattle.address_commission.specs.declared.assigned.Assigned.TheVariants.{Done, NoUnit, Several, Taken, Unconfirmed}
+use Rattle.address_talk.specs.declared.assigned.AssignFault.{AssignFault}
+use Rattle.address_talk.specs.declared.assigned.Assigned.{Assigned}
+use Rattle.address_talk.specs.declared.assigned.Assigned.TheVariants.{Done, NoUnit, Several, Taken, Unconfirmed}
 use Rattle.address_commission.specs.declared.ear.Ear.{Ear}
 use Rattle.address_commission.specs.declared.ear.Heard.{Heard}
 use Rattle.address_commission.specs.declared.ear.Heard.TheVariants as ear
-use Rattle.address_commission.specs.Rounds.{Round, rounds, answers}
-use Rattle.address_commission.specs.Talk.{AsksFor, AllSilent, Searches, OneOther, MayAsk, ReadsFirst, Connects, Disconnects, Writes, ReadsLast, Gives, NobodyAnswers, HasItAlready, ManyAnswer, ManyAnswerLate, AnotherHasIt, HasItNow, IsntSure}
+use Rattle.address_talk.specs.Rounds.{Round, rounds, answers}
+use Rattle.address_talk.specs.Talk.{AsksFor, AllSilent, Searches, OneOther, MayAsk, ReadsFirst, Connects, Disconnects, Writes, ReadsLast, Gives, NobodyAnswers, HasItAlready, ManyAnswer, ManyAnswerLate, AnotherHasIt, HasItNow, IsntSure}
 use Rattle.address_commission.specs.Going.{Going, OneMore, AsksOne}
 use Rattle.address_commission.specs.Listening.{HeardSo, HearsRounds, Listens, Begins, IsTurnTo, IsOut, SearchedSo, FoundSo, TriedBy, SureSo}
-use Rattle.address_commission.specs.Ends.{AnsweredBy}
+use Rattle.address_talk.specs.Ends.{AnsweredBy}
 use Rattle.address_commission.proofs.Asks.{read_is}
 use Rattle.address_commission.specs.Exact.{WhereExact}
 

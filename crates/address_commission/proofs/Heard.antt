@@ -12,8 +12,7 @@ use Rattle.tunnel_link.specs.declared.came.Loss.TheVariants.{Stays, Ended, Told}
 use Rattle.tunnel_link.specs.declared.came.What.{What}
 use Rattle.tunnel_link.specs.declared.came.What.TheVariants as came
 use Rattle.tunnel_link.specs.Adds.{IsNothing, One, OrLoses, TakesAt, TakesUnread, DoesSo, GotSo}
-use Rattle.address_commission.specs.Rounds.{Round, and_answer, answer_in, confirmed_by, with_frame, on_newest, after_deed, rounds, is_read, answers, has_lost}
-use Rattle.address_commission.specs.Going.{GoOn}
+use Rattle.address_talk.specs.Rounds.{Round, and_answer, answer_in, confirmed_by, with_frame, on_newest, after_deed, rounds, is_read, answers, has_lost, GoOn}
 use Rattle.address_commission.specs.Listening.{HeardSo, HearsRounds, TakesFrame, HearsWhat}
 use Rattle.address_commission.specs.declared.ear.Ear.{Ear}
 use Rattle.address_commission.proofs.Folds.{nothing_rounds, nothing_lost, one_rounds, one_lost, PutsNo, nothing_puts, one_puts}

@@ -24,11 +24,12 @@ use Rattle.tunnel_link.specs.Alone.{Each, LeavesAlone, Nothing, Once, SendsOnce}
 use Rattle.tunnel_link.specs.Goes.{GoesOn}
 use Rattle.tunnel_link.specs.Paces.{TakesNoTime, BeatsInTime, PollsWithin}
 use Rattle.tunnel_link.specs.Rights.{IsOfTunnel}
-use Rattle.address_commission.specs.declared.assigned.AssignFault.{AssignFault}
-use Rattle.address_commission.specs.declared.assigned.AssignFault.TheVariants as fails
-use Rattle.address_commission.specs.Rounds.{has_lost}
+use Rattle.address_talk.specs.declared.assigned.AssignFault.{AssignFault}
+use Rattle.address_talk.specs.declared.assigned.AssignFault.TheVariants as fails
+use Rattle.address_talk.specs.Rounds.{has_lost}
 use Rattle.address_commission.specs.Going.{ComesFrom, Going}
-use Rattle.address_commission.specs.Ends.{AwaitsResponse, CausedBy, ComesLate, FailsSo, HasAwaited, LeavesOn, LeavesSince, LeftOn, PaceKept, ToldAs, EndsOnce, datagrams_in, fault_of, got_one}
+use Rattle.address_talk.specs.Ends.{AwaitsResponse, ComesLate, FailsSo, LeavesOn, EndsOnce, datagrams_in}
+use Rattle.address_commission.specs.Calls.{CausedBy, HasAwaited, LeavesSince, LeftOn, PaceKept, ToldAs, fault_of, got_one}
 use Rattle.address_commission.proofs.Exacts.{is_exact}
 use Rattle.address_commission.proofs.Folds.{NoGot, nothing_lost, one_lost, sends_no_got, quiet_no_got}
 use Rattle.address_commission.proofs.Pacing.{also, not_both, alone_paces, poll_paces, newest_within}

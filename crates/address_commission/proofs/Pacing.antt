@@ -20,9 +20,9 @@ use Rattle.tunnel_link.specs.declared.came.Came.{Came}
 use Rattle.tunnel_link.specs.Adds.{Growing, Brings}
 use Rattle.tunnel_link.specs.Alone.{Each, EndsNone, LeavesAlone}
 use Rattle.tunnel_link.specs.Paces.{TakesNoTime, BeatsInTime, PollsWithin}
-use Rattle.address_commission.specs.Rounds.{Round, after_deed, rounds, quiet_since, has_lost}
-use Rattle.address_commission.specs.Talk.{HeardOutBy}
-use Rattle.address_commission.specs.Pace.{WaitsSo, WaitsRightly, WaitsUntil, Paced, PacedUntil}
+use Rattle.address_talk.specs.Rounds.{Round, after_deed, rounds, quiet_since, has_lost}
+use Rattle.address_talk.specs.Talk.{HeardOutBy}
+use Rattle.address_talk.specs.Pace.{WaitsSo, WaitsRightly, WaitsUntil, Paced, PacedUntil}
 use Rattle.address_commission.specs.Listening.{AwaitsFor}
 use Rattle.address_commission.proofs.Exacts.{told_too}
 use Rattle.address_commission.proofs.Folds.{NoGot, left_false, right_false, quiet_on, quiet_no_got}

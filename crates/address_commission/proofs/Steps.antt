@@ -11,10 +11,9 @@ use Rattle.tunnel_link.specs.declared.came.Loss.{Loss}
 use Rattle.tunnel_link.specs.declared.came.Loss.TheVariants.{Stays}
 use Rattle.tunnel_link.specs.Adds.{Growing, moments_on, AllNothing, Brings}
 use Rattle.tunnel_link.specs.Goes.{GoesOn}
-use Rattle.address_commission.specs.Rounds.{rounds, quiet_since, has_lost}
-use Rattle.address_commission.specs.Talk.{TalksRightly}
-use Rattle.address_commission.specs.Pace.{Paced}
-use Rattle.address_commission.specs.Going.{GoOn, SameRounds}
+use Rattle.address_talk.specs.Rounds.{rounds, quiet_since, has_lost, GoOn, SameRounds}
+use Rattle.address_talk.specs.Talk.{TalksRightly}
+use Rattle.address_talk.specs.Pace.{Paced}
 use Rattle.address_commission.specs.Listening.{HearsRounds, Hears, HearsWhat, Listens}
 use Rattle.address_commission.specs.declared.ear.Ear.{Ear}
 use Rattle.address_commission.proofs.Exacts.{told_too}

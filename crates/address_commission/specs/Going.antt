@@ -1,12 +1,12 @@
 -- How the places of a link's story go on in a call, where the story tells them.
-use Rattle.std.specs.Prelude.{◌≡◌, List, [], ◌∷◌, ◌++◌, Some}
+use Rattle.std.specs.Prelude.{◌≡◌, List, [], ◌∷◌, Some}
 use Rattle.knx_model.specs.declared.address.IndAddr.{IndAddr}
 use Rattle.line_model.specs.Record.{Placed}
 use Rattle.line_model.specs.LinkStory.{Story}
 use Rattle.line_model.specs.Moments.{moments}
 use Rattle.address_world.specs.declared.asked.Asked.{Asked}
-use Rattle.address_commission.specs.Rounds.{Round, rounds}
-use Rattle.address_commission.specs.Talk.{AsksFor}
+use Rattle.address_talk.specs.Rounds.{Round, rounds}
+use Rattle.address_talk.specs.Talk.{AsksFor}
 use Rattle.address_commission.specs.Exact.{WhereExact, exact_places_in}
 
 -- these places come from those that the story before told, and P holds of both
@@ -18,15 +18,6 @@ pub record ComesFrom (P : List Placed → List Placed → Type 0) (before : Stor
 abbrev pub Going : (List Placed → List Placed → Type 0) → Story → Story → Type 0
 Going P before after = WhereExact (ComesFrom P before) after
 
--- no request was put: the newest round has the same frame, and the others are the same
-abbrev pub GoOn : List Round → List Round → Type 0
-GoOn [] [] = Unit {0}
-GoOn (r ∷ rs) (s ∷ ss) = (s.frame ≡ r.frame) × (ss ≡ rs)
-GoOn _ _ = ⊥
-
-abbrev pub SameRounds : List Placed → List Placed → Type 0
-SameRounds old new = GoOn (rounds (moments old)) (rounds (moments new))
-
 -- one request was put: the newest round asks for this, and those before it are the same
 abbrev pub OneMore : IndAddr → Asked → List Round → List Round → Type 0
 OneMore wanted asked old [] = ⊥
@@ -34,9 +25,3 @@ OneMore wanted asked old (r ∷ rs) = AsksFor wanted asked r × (rs ≡ old)
 
 abbrev pub AsksOne : IndAddr → Asked → List Placed → List Placed → Type 0
 AsksOne wanted asked old new = OneMore wanted asked (rounds (moments old)) (rounds (moments new))
-
--- what was added to the places, in which no request is put
-pub record GoesOnFrom (old new : List Placed) : Type 0 where
-  pub added : List Placed
-  pub all : new ≡ added ++ old
-  pub rounds_go_on : SameRounds old new

@@ -12,12 +12,11 @@ use Rattle.address_world.specs.declared.asked.Asked.{Asked}
 use Rattle.address_world.specs.declared.asked.Asked.TheVariants as asked
 use Rattle.line_model.specs.Record.{Placed, entries}
 use Rattle.line_model.specs.Moments.{moments}
-use Rattle.line_model.specs.Faults.{datagrams_taken, flood}
-use Rattle.address_commission.specs.Rounds.{Round, rounds, answers, and_answer, answer_in, confirmed_by, quiet_since, has_lost}
-use Rattle.address_commission.specs.Pace.{Paced}
-use Rattle.address_commission.specs.Talk.{AllSilent, Searches, SeveralAnswer, AsksFor, MayAsk, HeardOut, HeardOutBy, listening_wait, TalksRightly}
-use Rattle.address_commission.specs.declared.assigned.Assigned.{Assigned}
-use Rattle.address_commission.specs.declared.assigned.Assigned.TheVariants.{Done, NoUnit, Several, Taken, Unconfirmed}
+use Rattle.address_talk.specs.Rounds.{Round, rounds, answers, and_answer, answer_in, confirmed_by, quiet_since}
+use Rattle.address_talk.specs.Ends.{Stands}
+use Rattle.address_talk.specs.Talk.{AllSilent, Searches, SeveralAnswer, AsksFor, MayAsk, HeardOut, HeardOutBy, listening_wait}
+use Rattle.address_talk.specs.declared.assigned.Assigned.{Assigned}
+use Rattle.address_talk.specs.declared.assigned.Assigned.TheVariants.{Done, NoUnit, Several, Taken, Unconfirmed}
 use Rattle.address_commission.specs.declared.ear.Ear.{Ear}
 use Rattle.address_commission.specs.declared.ear.Heard.{Heard}
 use Rattle.address_commission.specs.declared.ear.Heard.TheVariants as ear
@@ -35,13 +34,6 @@ HearsRounds e (r ∷ rs) = HeardSo e.heard (answers (r ∷ rs)) × (e.confirmed 
 pub record Hears (e : Ear) (places : List Placed) : Type 0 where
   pub rounds_so : HearsRounds e (rounds (moments places))
   pub since : e.since ≡ quiet_since (entries places)
-
--- it talked rightly, and there is no cause yet to give it up
-pub record Stands (wanted : IndAddr) (places : List Placed) : Type 0 where
-  pub rightly : TalksRightly wanted places
-  pub kept : has_lost (moments places) ≡ false
-  pub few : datagrams_taken (entries places) < flood
-  pub paced : Paced wanted places
 
 pub record Listens (wanted : IndAddr) (e : Ear) (places : List Placed) : Type 0 where
   pub stands : Stands wanted places

@@ -1,16 +1,17 @@
 //! One request, and its wait.
 
 ghost use Rattle.std.specs.Prelude.{◌≡◌, ◌≤◌, IfErr, OnOk, None};
-ghost use Rattle.address_commission.specs.Ends.{AsksGoes, FailsBy, TalkFails};
+ghost use Rattle.address_commission.specs.Calls.{AsksGoes, TalkFails};
+ghost use Rattle.address_talk.specs.Ends.{FailsBy};
 ghost use Rattle.address_commission.specs.Going.{AsksOne, Going};
 ghost use Rattle.address_commission.specs.Listening.{IsOut, IsTurnTo, Listens, quiet_after};
 ghost use Rattle.address_commission.specs.Exact.{WhereExact};
 
-use crate::assigned::AssignFault;
 use crate::ear::Ear;
 use crate::frames::request_of;
 use crate::told::told;
 use crate::wait::wait_out;
+use address_talk::AssignFault;
 use address_world::Asked;
 use knx_model::IndAddr;
 use line_model::Link;

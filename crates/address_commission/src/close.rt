@@ -14,13 +14,14 @@ ghost use Rattle.line_model.specs.Record.{Placed, entries};
 ghost use Rattle.tunnel_link.specs.Adds.{Growing};
 ghost use Rattle.tunnel_link.specs.Alone.{Each, EndsNone};
 ghost use Rattle.tunnel_link.specs.Goes.{GoesOn};
-ghost use Rattle.address_commission.specs.Ends.{ClosesSo, ComesLate, FailsBy, FailsSo, HasAwaited, LeavesOn, LeavesSince, LeftOn, PaceKept, got_one};
+ghost use Rattle.address_commission.specs.Calls.{ClosesSo, HasAwaited, LeavesSince, LeftOn, PaceKept, got_one};
+ghost use Rattle.address_talk.specs.Ends.{ComesLate, FailsBy, FailsSo, LeavesOn};
 ghost use Rattle.address_commission.specs.Going.{Going};
-ghost use Rattle.address_commission.specs.Rounds.{has_lost};
+ghost use Rattle.address_talk.specs.Rounds.{has_lost};
 ghost use Rattle.address_commission.specs.Exact.{WhereExact};
 
-use crate::assigned::AssignFault;
 use crate::told::told;
+use address_talk::AssignFault;
 use line_model::Link;
 use std::sync::Wait;
 use tunnel_link::{Came, Loss, Tunnel, What};

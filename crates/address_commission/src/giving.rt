@@ -1,22 +1,25 @@
 //! Giving an address.
 
-ghost use Rattle.std.specs.Prelude.{◌≡◌, ◌≤◌, IfErr, IfOk, List, None};
+ghost use Rattle.std.specs.Prelude.{◌≡◌, ◌≤◌, IfErr, IfOk, List, None, map};
 ghost use Rattle.knx_model.specs.Outside.{Rose};
 ghost use Rattle.line_model.specs.LinkStory.{IsNewLink};
 ghost use Rattle.line_model.specs.Record.{entries};
 ghost use Rattle.line_model.specs.Renews.{AcknowledgesRightly};
 ghost use Rattle.address_world.specs.AddressStory.{Told};
-ghost use Rattle.address_world.specs.AddressWorld.{AddressEvent, AddressWorld};
+ghost use Rattle.address_law.specs.Calm.{AreCalm};
+ghost use Rattle.address_law.specs.Determined.{IsDetermined};
+ghost use Rattle.address_world.specs.Shown.{shown};
+ghost use Rattle.address_world.specs.AddressWorld.{AddressEvent, AddressWorld, replay};
 ghost use Rattle.address_world.specs.Keeps.{AlwaysKeepsUnits};
-ghost use Rattle.address_commission.specs.Ends.{EndsSo, FailsBy, Leaves};
+ghost use Rattle.address_talk.specs.Ends.{EndsSo, FailsBy, HasThreeTries, Leaves};
 ghost use Rattle.address_commission.specs.Exact.{WhereExact};
-ghost use Rattle.tunnel_link.specs.Rights.{WhereTold};
 
-use crate::assigned::{AssignFault, Assigned};
 use crate::close::close;
 use crate::ear::Ear;
 use crate::open::open;
 use crate::talk::give;
+use address_law::the_units_determine_what_comes_of_it;
+use address_talk::{AssignFault, Assigned};
 use address_world::{AddressLink, requests_are_those_that_were_put, units_keep_their_addresses};
 use knx_model::IndAddr;
 use line_model::Link;
@@ -34,11 +37,13 @@ pub fn assign<R: Wait, L: AddressLink>(
     ensures leaves { IfOk result.1 (λ assigned. ¬ Rose (L.faults link) (L.faults result.0) → WhereExact (Leaves wanted assigned) (L.story result.0)) }
     ensures acknowledges { WhereTold (λ places. AcknowledgesRightly (entries places)) (L.story result.0) }
     ensures units { (start : AddressWorld) (events : List AddressEvent) → L.told result.0 ≡ Told start events → AlwaysKeepsUnits wanted start events }
+    ensures determined { (start : AddressWorld) (events : List AddressEvent) → L.told result.0 ≡ Told start events → AreCalm start events → IsDetermined wanted (map shown start.units) (map shown (replay start events).units) result.1 }
     ensures cause { IfErr result.1 (λ fault. FailsBy fault (L.faults link) (L.faults result.0)) }
     ensures count { L.faults link ≤ L.faults result.0 }
     ensures script { L.script result.0 ≡ L.script link }
 {
     units_keep_their_addresses();
+    the_units_determine_what_comes_of_it();
     requests_are_those_that_were_put();
     let mut tunnel = Tunnel::begin(link);
     let result = talk(rt, &mut tunnel, wanted);
@@ -58,6 +63,7 @@ fn talk<R: Wait, L: Link>(
     requires new { IsNewLink (L.story tunnel.old.link) }
     ensures ends { WhereExact (EndsSo wanted result) (L.story tunnel.new.link) }
     ensures leaves { IfOk result (λ assigned. ¬ Rose (L.faults tunnel.old.link) (L.faults tunnel.new.link) → WhereExact (Leaves wanted assigned) (L.story tunnel.new.link)) }
+    ensures tries { HasThreeTries result }
     ensures cause { IfErr result (λ fault. FailsBy fault (L.faults tunnel.old.link) (L.faults tunnel.new.link)) }
     ensures count { L.faults tunnel.old.link ≤ L.faults tunnel.new.link }
     ensures script { L.script tunnel.new.link ≡ L.script tunnel.old.link }

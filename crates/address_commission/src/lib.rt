@@ -2,7 +2,6 @@
 #![tactic(auto)]
 
 mod ask;
-mod assigned;
 mod close;
 mod ear;
 mod frames;
@@ -14,8 +13,8 @@ mod told;
 mod turn;
 mod wait;
 
+pub use address_talk::{AssignFault, Assigned};
 pub use address_world::{AddressLink, Plain};
-pub use assigned::{AssignFault, Assigned};
 pub use giving::assign;
 pub use knx_model::{IndAddr, NoMemory};
 pub use line_model::Try;

@@ -2,14 +2,15 @@
 
 ghost use Rattle.std.specs.Prelude.{◌≡◌, ◌≤◌, IfErr, OnOk, None, false, true};
 ghost use Rattle.line_model.specs.Moments.{moments};
-ghost use Rattle.address_commission.specs.Ends.{FailsBy, TalkFails};
+ghost use Rattle.address_talk.specs.Ends.{FailsBy};
+ghost use Rattle.address_commission.specs.Calls.{TalkFails};
 ghost use Rattle.address_commission.specs.Listening.{Begins, IsOut, Listens, SearchedSo};
-ghost use Rattle.address_commission.specs.Rounds.{rounds};
+ghost use Rattle.address_talk.specs.Rounds.{rounds};
 ghost use Rattle.address_commission.specs.Exact.{WhereExact};
 
 use crate::ask::ask;
-use crate::assigned::AssignFault;
 use crate::ear::{Ear, Heard};
+use address_talk::AssignFault;
 use address_world::Asked;
 use knx_model::IndAddr;
 use line_model::Link;

@@ -2,15 +2,16 @@
 
 ghost use Rattle.std.specs.Prelude.{◌≡◌, ◌≤◌, IfErr, IfOk, OnOk, None, Some};
 ghost use Rattle.line_model.specs.Moments.{moments};
-ghost use Rattle.address_commission.specs.Ends.{AnsweredBy, FailsBy, TalkFails};
+ghost use Rattle.address_talk.specs.Ends.{AnsweredBy, FailsBy};
+ghost use Rattle.address_commission.specs.Calls.{TalkFails};
 ghost use Rattle.address_commission.specs.Listening.{Begins, FoundSo, IsOut, Listens, SureSo, TriedBy};
-ghost use Rattle.address_commission.specs.Rounds.{rounds};
+ghost use Rattle.address_talk.specs.Rounds.{rounds};
 ghost use Rattle.address_commission.specs.Exact.{WhereExact};
 
 use crate::ask::ask;
-use crate::assigned::{AssignFault, Assigned};
 use crate::ear::{Ear, Heard};
 use crate::search::search;
+use address_talk::{AssignFault, Assigned};
 use address_world::Asked;
 use knx_model::IndAddr;
 use line_model::Link;

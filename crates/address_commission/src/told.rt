@@ -2,10 +2,10 @@
 
 ghost use Rattle.std.specs.Prelude.{◌≡◌, IfErr, Some};
 ghost use Rattle.tunnel_link.specs.Rights.{IsOfTunnel};
-ghost use Rattle.address_commission.specs.Ends.{CausedBy, ToldAs, fault_of};
+ghost use Rattle.address_commission.specs.Calls.{CausedBy, ToldAs, fault_of};
 ghost use Rattle.address_commission.specs.Exact.{WhereExact};
 
-use crate::assigned::AssignFault;
+use address_talk::AssignFault;
 use line_model::{HubFault, Link};
 use tunnel_link::Tunnel;
 

@@ -3,15 +3,17 @@
 ghost use Rattle.std.specs.Prelude.{◌≡◌, ◌<◌, ◌≤◌, IfErr, OnOk, None};
 ghost use Rattle.knx_model.specs.declared.address.IndAddr.{IndAddr as Address};
 ghost use Rattle.tunnel_link.specs.Adds.{HasActed};
-ghost use Rattle.address_commission.specs.Ends.{EndsFor, FailsBy, TalkGoes};
-ghost use Rattle.address_commission.specs.Going.{Going, SameRounds};
+ghost use Rattle.address_commission.specs.Calls.{EndsFor, TalkGoes};
+ghost use Rattle.address_talk.specs.Ends.{FailsBy};
+ghost use Rattle.address_commission.specs.Going.{Going};
+ghost use Rattle.address_talk.specs.Rounds.{SameRounds};
 ghost use Rattle.address_commission.specs.Listening.{AwaitsFor, Listens};
 ghost use Rattle.address_commission.specs.declared.ear.Ear.{Ear as HeldEar};
 ghost use Rattle.address_commission.specs.Exact.{WhereExact};
 
-use crate::assigned::AssignFault;
 use crate::ear::Ear;
 use crate::told::told;
+use address_talk::AssignFault;
 use line_model::Link;
 use tunnel_link::{Loss, Tunnel};
 

@@ -3,15 +3,15 @@
 ghost use Rattle.std.specs.Prelude.{◌≡◌, ◌≢◌, ◌⊎◌, ◌-◌, ◌<◌, ◌≤◌, IfErr, OnOk, None, true, false};
 ghost use Rattle.line_model.specs.Moments.{moments};
 ghost use Rattle.line_model.specs.Waiting.{longest_poll};
-ghost use Rattle.address_commission.specs.Ends.{FailsBy, TalkGoes};
-ghost use Rattle.address_commission.specs.Going.{SameRounds};
+ghost use Rattle.address_talk.specs.Ends.{FailsBy};
+ghost use Rattle.address_commission.specs.Calls.{TalkGoes};
+ghost use Rattle.address_talk.specs.Rounds.{SameRounds, rounds};
 ghost use Rattle.address_commission.specs.Listening.{HasWaited, ListensFor};
-ghost use Rattle.address_commission.specs.Rounds.{rounds};
 ghost use Rattle.address_commission.specs.Exact.{WhereExact};
 
-use crate::assigned::AssignFault;
 use crate::ear::Ear;
 use crate::turn::{act, poll};
+use address_talk::AssignFault;
 use line_model::{LONGEST_POLL_MS, Link};
 use std::sync::Wait;
 use tunnel_link::Tunnel;

@@ -9,3 +9,4 @@ pub mod Links
 pub mod Waiting
 pub mod Carried
 pub mod Stays
+pub mod Calm

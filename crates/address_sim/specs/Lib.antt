@@ -9,3 +9,4 @@ pub mod Held
 pub mod Turns
 pub mod Driven
 pub mod Stays
+pub mod Undisturbed

@@ -7,6 +7,7 @@ use Rattle.line_model.specs.Tunnel.{fresh}
 use Rattle.address_world.specs.declared.unit.Unit.{Unit as BusUnit}
 use Rattle.address_world.specs.declared.unit.UnitLoss.{UnitLoss}
 use Rattle.address_world.specs.AddressWorld.{AddressWorld, AddressEvent, UnitState, replay}
+use Rattle.address_world.specs.Shown.{shown}
 use Rattle.address_world.specs.AddressStory.{AddressStory, Told, record_of}
 
 pub record Begun : Type 0 where
@@ -20,10 +21,6 @@ pub record RunNow : Type 0 where
 
 abbrev pub at_rest : BusUnit → UnitState
 at_rest u = record { address = u.address; programming = u.prog; unsent = [] }
-
--- a unit as it is shown
-abbrev pub shown : UnitState → BusUnit
-shown u = record { address = u.address; prog = u.programming }
 
 abbrev pub start_of : Begun → AddressWorld
 start_of b = record { tunnel = fresh b.tunnel; units = map at_rest b.units }

@@ -19,5 +19,8 @@ mod units;
 
 pub use address_world::{AddressLink, IndAddr, Unit, UnitLoss, UnitScript};
 pub use bus::AddressBus;
-pub use laws::what_stays_is_all_that_it_began_with;
+pub use laws::{
+    a_bus_that_loses_nothing_is_calm, a_text_without_losses_loses_nothing,
+    what_stays_is_all_that_it_began_with,
+};
 pub use line_model::{Link, LinkFault, Polled};

@@ -7,7 +7,8 @@ ghost use Rattle.line_model.specs.World.{AtGateway as Hears};
 ghost use Rattle.address_world.specs.AddressWorld.{AddressEvent, Respond, UnitState, all_get, broadcast, changed, gets_broadcast, has_address, oldest_at, response, sends};
 ghost use Rattle.address_sim.specs.Follows.{AllSent, responses};
 ghost use Rattle.address_sim.specs.Losses.{without};
-ghost use Rattle.address_sim.specs.Told.{at_rest, shown};
+ghost use Rattle.address_sim.specs.Told.{at_rest};
+ghost use Rattle.address_world.specs.Shown.{shown};
 
 use crate::losses::loses_read;
 use address_world::{Unit, UnitLoss};

@@ -1,7 +1,6 @@
--- Where each datagram of the client asks for one of the three frames alone, no other frame waits for the bus.
+-- Where each frame that the client's datagrams ask for is of one kind, each frame that waits for the bus is.
 use Rattle.std.proofs.Common.{◌≡◌, ℕ, zero, suc, List, [], ◌∷◌, ◌++◌, length, drop, Bool, true, false, cond, Option, Some, None, refl, subst}
 use Rattle.std.specs.Prelude.{slice_get, ◌==◌}
-use Rattle.knx_model.specs.declared.address.IndAddr.{IndAddr}
 use Rattle.knx_model.specs.declared.frames.cemi.Ldata.{Ldata}
 use Rattle.knx_model.specs.declared.frames.ip.IpFrame.{IpFrame}
 use Rattle.knx_model.specs.declared.frames.ip.IpFrame.TheVariants.{ConnectRequest, ConnectResponse, StateRequest, StateResponse, DisconnectRequest, DisconnectResponse, TunnellingRequest, TunnellingAck}
@@ -9,7 +8,6 @@ use Rattle.line_model.specs.Reading.{datagram_in, ldata_in, is_req}
 use Rattle.line_model.specs.Network.{Sent, changed_at, once_more, gone}
 use Rattle.line_model.specs.Gateway.{Gateway, Channel, Request, GatewayTook, closed_if_open, connects, makes, closed, number_of, request_took, next_number, to_bus, acts_on, drops, answers as answers_frame, acknowledged, names, took, hears, gateway_took, next_put}
 use Rattle.line_model.specs.Tunnel.{Tunnel, TunnelEvent, Send, From, Renew, Up, UpRefused, Down, LoseUp, LoseDown, Carried, Heard, Repeat, Close, Pass, Elsewhere, with_gateway, with_up, sends_down_if, takes_frame, takes_sent, refuses, puts, repeats, repeats_request, closes, after, step}
-use Rattle.address_world.specs.Keeps.{AsksOnly, IsAsked}
 
 abbrev pub Every : {A : Type 0} → (A → Type 0) → List A → Type 0
 Every P [] = Unit {0}
@@ -35,13 +33,17 @@ every_rest : {A : Type 0} (P : A → Type 0) (l : List A) → Every P l → Ever
 every_rest P [] h = tt
 every_rest P (x ∷ l) h = h.1
 
-module _ (wanted : IndAddr) where
+module _ (P : Ldata → Type 0) where
   abbrev AllOurs : List Ldata → Type 0
-  AllOurs l = Every (IsAsked wanted) l
+  AllOurs l = Every P l
 
-  -- a request with a frame that reads has one of the three
+  -- a tunnelling request whose frame reads has such a one
+  abbrev pub Only : List ℕ → Type 0
+  Only octets = (channel number : ℕ) (cemi : List ℕ) (frame : Ldata) → datagram_in octets ≡ Some (TunnellingRequest channel number cemi) → ldata_in cemi ≡ Some frame → P frame
+
+  -- the same of a request
   abbrev Asking : IpFrame → Type 0
-  Asking frame = (channel number : ℕ) (cemi : List ℕ) (f : Ldata) → frame ≡ TunnellingRequest channel number cemi → ldata_in cemi ≡ Some f → IsAsked wanted f
+  Asking frame = (channel number : ℕ) (cemi : List ℕ) (f : Ldata) → frame ≡ TunnellingRequest channel number cemi → ldata_in cemi ≡ Some f → P f
 
   -- ---- what the gateway does with a frame
 
@@ -58,20 +60,20 @@ module _ (wanted : IndAddr) where
   connects_bus g from now (Some c) h =
       by_test (c.endpoint == from) (answers_frame (ConnectResponse c.number 0 (Some g.tunnel)) g) (answers_frame (ConnectResponse (number_of (length g.makers)) 0 (Some g.tunnel)) (makes (closed g) from now)) h (closed_bus g g.channel h)
 
-  if_request : (f : Ldata) (t : Bool) → IsAsked wanted f → AllOurs (cond t (f ∷ []) [])
+  if_request : (f : Ldata) (t : Bool) → P f → AllOurs (cond t (f ∷ []) [])
   if_request f true h = (h, tt)
   if_request f false h = tt
 
-  frame_bus : (o : Option Ldata) → ((f : Ldata) → o ≡ Some f → IsAsked wanted f) → AllOurs (to_bus o)
+  frame_bus : (o : Option Ldata) → ((f : Ldata) → o ≡ Some f → P f) → AllOurs (to_bus o)
   frame_bus None h = tt
   frame_bus (Some f) h = if_request f (is_req f.code) (h f refl)
 
-  request_bus : (g : Gateway) (channel : Option Channel) (number : ℕ) (cemi : List ℕ) → ((f : Ldata) → ldata_in cemi ≡ Some f → IsAsked wanted f) → AllOurs g.bus → AllOurs (request_took g channel number cemi).after.bus
+  request_bus : (g : Gateway) (channel : Option Channel) (number : ℕ) (cemi : List ℕ) → ((f : Ldata) → ldata_in cemi ≡ Some f → P f) → AllOurs g.bus → AllOurs (request_took g channel number cemi).after.bus
   request_bus g None number cemi is h = h
   request_bus g (Some c) number cemi is h =
       by_test (number == c.expected) (record { send = Some (TunnellingAck c.number number 0); acted = Some cemi; after = acts_on g c cemi })
       (cond (next_number number == c.expected) (answers_frame (TunnellingAck c.number number 0) g) (drops g))
-      (every_join (IsAsked wanted) g.bus (to_bus (ldata_in cemi)) h (frame_bus (ldata_in cemi) is))
+      (every_join P g.bus (to_bus (ldata_in cemi)) h (frame_bus (ldata_in cemi) is))
       (by_test (next_number number == c.expected) (answers_frame (TunnellingAck c.number number 0) g) (drops g) h h)
 
   acknowledged_bus : (g : Gateway) (channel : Option Channel) (number status : ℕ) → AllOurs g.bus → AllOurs (acknowledged g channel number status).bus
@@ -98,7 +100,7 @@ module _ (wanted : IndAddr) where
   -- ---- the tunnel
 
   pub record TunnelAsks (t : Tunnel) : Type 0 where
-    pub up : Every (λ (s : Sent). AsksOnly wanted s.octets) t.network.up
+    pub up : Every (λ (s : Sent). Only s.octets) t.network.up
     pub bus : AllOurs t.gateway.bus
 
   sent_down : (t : Tunnel) (endpoint : ℕ) (frame : Option IpFrame) → TunnelAsks t → TunnelAsks (sends_down_if t endpoint frame)
@@ -111,7 +113,7 @@ module _ (wanted : IndAddr) where
       sent_down (with_gateway t (gateway_took t.gateway from t.now frame).after) from (gateway_took t.gateway from t.now frame).send
       (record { up = h.up; bus = gateway_bus t.gateway from t.now frame (is frame refl) h.bus })
 
-  sent_taken : (t : Tunnel) (o : Option Sent) → ((s : Sent) → o ≡ Some s → AsksOnly wanted s.octets) → TunnelAsks t → TunnelAsks (takes_sent t o)
+  sent_taken : (t : Tunnel) (o : Option Sent) → ((s : Sent) → o ≡ Some s → Only s.octets) → TunnelAsks t → TunnelAsks (takes_sent t o)
   sent_taken t None is h = h
   sent_taken t (Some s) is h = frame_taken t s.endpoint (datagram_in s.octets) (λ frame e channel number cemi f q g. is s refl channel number cemi f (subst (λ z. datagram_in s.octets ≡ Some z) q e) g) h
 
@@ -135,10 +137,10 @@ module _ (wanted : IndAddr) where
   close_asks t None h = h
   close_asks t (Some c) h = record { up = h.up; bus = closed_bus t.gateway t.gateway.channel h.bus }
 
-  -- what the client sends asks for them alone
+  -- what the client sends asks for such frames alone
   abbrev pub SendsOurs : TunnelEvent → Type 0
-  SendsOurs (Send octets) = AsksOnly wanted octets
-  SendsOurs (From endpoint octets) = AsksOnly wanted octets
+  SendsOurs (Send octets) = Only octets
+  SendsOurs (From endpoint octets) = Only octets
   SendsOurs e = Unit {0}
 
   after_asks : (t : Tunnel) (e : TunnelEvent) → SendsOurs e → TunnelAsks t → TunnelAsks (after t e)
@@ -146,15 +148,15 @@ module _ (wanted : IndAddr) where
   after_asks t (From endpoint octets) is h = record { up = (is, h.up); bus = h.bus }
   after_asks t Renew is h = record { up = h.up; bus = h.bus }
   after_asks t (Up age) is h =
-      sent_taken (with_up t (changed_at age once_more t.network.up)) (slice_get t.network.up age) (λ s e. every_at (λ (s : Sent). AsksOnly wanted s.octets) t.network.up age s e h.up)
-      (record { up = every_changed (λ (s : Sent). AsksOnly wanted s.octets) once_more (λ s a. a) age t.network.up h.up; bus = h.bus })
+      sent_taken (with_up t (changed_at age once_more t.network.up)) (slice_get t.network.up age) (λ s e. every_at (λ (s : Sent). Only s.octets) t.network.up age s e h.up)
+      (record { up = every_changed (λ (s : Sent). Only s.octets) once_more (λ s a. a) age t.network.up h.up; bus = h.bus })
   after_asks t (UpRefused age status) is h =
       refused_sent (with_up t (changed_at age once_more t.network.up)) status (slice_get t.network.up age)
-      (record { up = every_changed (λ (s : Sent). AsksOnly wanted s.octets) once_more (λ s a. a) age t.network.up h.up; bus = h.bus })
+      (record { up = every_changed (λ (s : Sent). Only s.octets) once_more (λ s a. a) age t.network.up h.up; bus = h.bus })
   after_asks t (Down age) is h = record { up = h.up; bus = h.bus }
-  after_asks t (LoseUp age) is h = record { up = every_changed (λ (s : Sent). AsksOnly wanted s.octets) gone (λ s a. a) age t.network.up h.up; bus = h.bus }
+  after_asks t (LoseUp age) is h = record { up = every_changed (λ (s : Sent). Only s.octets) gone (λ s a. a) age t.network.up h.up; bus = h.bus }
   after_asks t (LoseDown age) is h = record { up = h.up; bus = h.bus }
-  after_asks t (Carried confirmation) is h = record { up = h.up; bus = every_rest (IsAsked wanted) t.gateway.bus h.bus }
+  after_asks t (Carried confirmation) is h = record { up = h.up; bus = every_rest P t.gateway.bus h.bus }
   after_asks t (Heard frames) is h = record { up = h.up; bus = h.bus }
   after_asks t Repeat is h = repeat_asks t t.gateway.channel h
   after_asks t Close is h = close_asks t t.gateway.channel h

@@ -1,5 +1,5 @@
 pub mod Frames
 pub mod Gateways
+pub mod Requests
 pub mod Units
 pub mod Always
-pub mod Requests

@@ -1,10 +1,10 @@
 -- What a frame on the bus keeps of the units.
-use Rattle.std.proofs.Common.{◌≡◌, ℕ, zero, suc, inl, inr, List, [], ◌∷◌, Bool, true, false, cond, Option, Some, None, refl, sym, ◌∙◌}
+use Rattle.std.proofs.Common.{◌≡◌, ℕ, zero, suc, inl, inr, List, [], ◌∷◌, Bool, true, false, cond, Option, refl, sym, ◌∙◌}
 use Rattle.knx_model.specs.declared.address.IndAddr.{IndAddr}
 use Rattle.knx_model.specs.declared.frames.cemi.Ldata.{Ldata}
 use Rattle.knx_model.specs.declared.frames.tpdu.Apdu.{Apdu}
 use Rattle.line_model.specs.World.{is_among}
-use Rattle.address_world.specs.AddressWorld.{UnitState, broadcast, gets, gets_broadcast, all_get, carried_to, changed, sends}
+use Rattle.address_world.specs.AddressWorld.{UnitState, broadcast, gets, gets_broadcast, all_get, changed, sends}
 use Rattle.address_world.specs.Keeps.{KeepsUnit, KeepsUnits}
 use Rattle.address_world.proofs.Frames.{Asks}
 
@@ -26,7 +26,7 @@ module _ (wanted : IndAddr) where
   unless_left_out s u v true h g = h
   unless_left_out s u v false h g = g
 
-  all_keep : (at : ℕ) (left_out : List ℕ) (frame : Ldata) → Asks wanted (broadcast frame) → (start now : List UnitState) → KeepsUnits wanted start now → KeepsUnits wanted start (all_get at left_out frame now)
+  pub all_keep : (at : ℕ) (left_out : List ℕ) (frame : Ldata) → Asks wanted (broadcast frame) → (start now : List UnitState) → KeepsUnits wanted start now → KeepsUnits wanted start (all_get at left_out frame now)
   all_keep at left_out frame is [] [] h = tt
   all_keep at left_out frame is [] (n ∷ now) h = absurd h
   all_keep at left_out frame is (s ∷ start) [] h = absurd h
@@ -34,11 +34,6 @@ module _ (wanted : IndAddr) where
     unless_left_out s n (gets_broadcast frame n) (is_among left_out at) h.0 (if_programming s n (broadcast frame) is n.programming refl h.0),
     all_keep (suc at) left_out frame is start now h.1,
   )
-
-  pub carried_keeps : (left_out : List ℕ) (o : Option Ldata) → ((frame : Ldata) → o ≡ Some frame → Asks wanted (broadcast frame)) → (start now : List UnitState) → KeepsUnits wanted start now
-      → KeepsUnits wanted start (carried_to left_out o now)
-  carried_keeps left_out None is start now h = h
-  carried_keeps left_out (Some frame) is start now h = all_keep 0 left_out frame (is frame refl) start now h
 
   pub sends_keeps : (at : ℕ) (start now : List UnitState) → KeepsUnits wanted start now → KeepsUnits wanted start (changed at sends now)
   sends_keeps at [] [] h = tt

@@ -2,10 +2,10 @@
 use Rattle.std.specs.Prelude.{ℕ, ◌≡◌, codes, List, [], ◌∷◌, ◌++◌, Some, Result, Ok, Err}
 use Rattle.std.specs.Fmt.{decimal}
 use Rattle.std.specs.List.{flat_map, enumerate_from}
-use Rattle.address_commission.specs.declared.assigned.Assigned.{Assigned}
-use Rattle.address_commission.specs.declared.assigned.Assigned.TheVariants as came
-use Rattle.address_commission.specs.declared.assigned.AssignFault.{AssignFault}
-use Rattle.address_commission.specs.declared.assigned.AssignFault.TheVariants as fails
+use Rattle.address_talk.specs.declared.assigned.Assigned.{Assigned}
+use Rattle.address_talk.specs.declared.assigned.Assigned.TheVariants as came
+use Rattle.address_talk.specs.declared.assigned.AssignFault.{AssignFault}
+use Rattle.address_talk.specs.declared.assigned.AssignFault.TheVariants as fails
 use Rattle.address_world.specs.declared.unit.Unit.{Unit as BusUnit}
 use Rattle.call_words.specs.declared.status.Status.{Status}
 use Rattle.call_words.specs.declared.status.Status.TheVariants as status

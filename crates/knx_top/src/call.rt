@@ -153,7 +153,7 @@ pub fn knx<
     ensures gateway { (names : GatewayWords) → asked (map string_bytes words.now) ≡ Some (AskedGateway names) → RunsGateway names (F.now files.old) (F.now files.new) (D.now dial.old) (D.now dial.new) sim.old sim.new (Replies (K.now out.old) (K.now out.new) result) }
     ensures find { (names : FindWords) → asked (map string_bytes words.now) ≡ Some (AskedFind names) → RunsFind names (D.now dial.old) (D.now dial.new) (Replies (K.now out.old) (K.now out.new) result) }
     // `assign` gives an address to the one unit in programming mode, over a link that it dials, or on the simulated bus of units: there each unit has at every
-    // moment its start's address, or is in programming mode and has the wanted one
+    // moment its start's address, or is in programming mode and has the wanted one; and where nothing was lost, its units determine what is told
     ensures assign { (names : AssignWords) → asked (map string_bytes words.now) ≡ Some (AskedAssign names) → RunsAssign names (D.now dial.old) (D.now dial.new) (Replies (K.now out.old) (K.now out.new) result) }
     ensures assign_sim { (names : AssignSimWords) → asked (map string_bytes words.now) ≡ Some (AskedAssignSim names) → RunsAssignSim names (F.now files.old) (F.now files.new) units.old units.new (Replies (K.now out.old) (K.now out.new) result) }
     // the line that the words of `big` make is run as by `sim`, and nothing is refused

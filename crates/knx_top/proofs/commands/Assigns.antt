@@ -1,17 +1,21 @@
 -- `assign`: what it comes to, and what is written of it.
 use Rattle.std.proofs.Common.{◌≡◌, ◌≢◌, ℕ, ◌≤◌, ◌∙◌, ap, true, ◌⊎◌, Option, None, Some, List, [], ◌∷◌, Result, Ok, Err, refl, sym, subst, inl, inr}
-use Rattle.std.specs.Prelude.{IfErr, IfOk}
-use Rattle.address_commission.specs.Ends.{EndsSo, FailsBy, Leaves}
+use Rattle.std.specs.Prelude.{IfErr, IfOk, map}
+use Rattle.address_talk.specs.Ends.{EndsSo, FailsBy, Leaves}
+use Rattle.address_law.specs.Calm.{AreCalm}
+use Rattle.address_law.specs.Determined.{IsDetermined}
 use Rattle.address_commission.specs.Exact.{WhereExact}
 use Rattle.address_sim.specs.Driven.{BusNow}
 use Rattle.address_sim.specs.Follows.{FollowsText}
 use Rattle.address_sim.specs.Stays.{lines_of}
-use Rattle.address_sim.specs.Told.{Begun, RunNow, start, story, told as told_of}
+use Rattle.address_sim.specs.Told.{Begun, RunNow, at_rest, start, start_of, story, told as told_of, units_now}
+use Rattle.address_world.specs.Shown.{shown}
 use Rattle.address_world.specs.AddressLegal.{IsFresh, IsLegal}
 use Rattle.address_world.specs.AddressStory.{Told}
-use Rattle.address_world.specs.AddressWorld.{AddressEvent, AddressWorld}
+use Rattle.address_world.specs.AddressWorld.{AddressEvent, AddressWorld, replay}
 use Rattle.address_world.specs.Keeps.{AlwaysKeepsUnits}
 use Rattle.address_world.specs.declared.unit.UnitLoss.{UnitLoss}
+use Rattle.address_sim.specs.Undisturbed.{NothingLost}
 use Rattle.address_text.specs.UnitText.{unit_reading}
 use Rattle.address_world.specs.declared.unit.Unit.{Unit as BusUnit}
 use Rattle.call_words.specs.declared.input_file.InputFile.TheVariants as file
@@ -25,7 +29,6 @@ use Rattle.line_model.specs.Record.{entries}
 use Rattle.line_model.specs.Renews.{AcknowledgesRightly}
 use Rattle.tunnel_link.specs.Rights.{WhereTold}
 use Rattle.call_parts.specs.Ending.{Is, StopsFor, report_in, wanting}
-use Rattle.call_parts.specs.Given.{EndsAs}
 use Rattle.call_parts.specs.Input.{IsRead, OnlyRose, failed, fault_in, first_some, octets_of}
 use Rattle.call_parts.specs.Judged.{read_of, unless_refused}
 use Rattle.call_parts.specs.Stops.{text_refused}
@@ -176,27 +179,49 @@ given_dialled words before after since dials given end count tells once same sti
 run_begun : (wanted : IndAddr) (text : Units) (bus : BusNow) → BeginsAs wanted (Ok text) bus → bus.run.begun ≡ begun_by wanted text
 run_begun wanted text bus b = ap (λ (r : RunNow). r.begun) b.0
 
-pub given_on : (wanted : IndAddr) (text : Units) (bus after : BusNow) (came : Outcome) → BeginsAs wanted (Ok text) bus → ((one other : Begun) → lines_of one ≡ lines_of other → one ≡ other) → lines_of after.run.begun ≡ lines_of bus.run.begun
+-- what the laws of the bus say
+abbrev pub QuietBuses : Type 0
+QuietBuses = (losses : List UnitLoss) (from : AddressWorld) (events : List AddressEvent) → FollowsText losses from events → NothingLost events → AreCalm from events
+
+abbrev pub QuietTexts : Type 0
+QuietTexts = (from : AddressWorld) (events : List AddressEvent) → FollowsText [] from events → NothingLost events
+
+shown_rest : (units : List BusUnit) → map shown (map at_rest units) ≡ units
+shown_rest [] = refl
+shown_rest (u ∷ units) = ap (λ (l : List BusUnit). u ∷ l) (shown_rest units)
+
+-- what the units at the start determine
+abbrev pub UnitsDetermine : IndAddr → BusNow → Outcome → Type 0
+UnitsDetermine wanted after came =
+    (from : AddressWorld) (events : List AddressEvent) → told_of after.run ≡ Told from events → AreCalm from events → IsDetermined wanted (map shown from.units) (map shown (replay from events).units) came
+
+lost_nothing : (text : Units) (after : BusNow) → QuietTexts → FollowsText text.1 (start after.run) after.run.events → text.1 ≡ [] → NothingLost after.run.events
+lost_nothing text after texts follows none = texts (start after.run) after.run.events (subst (λ (l : List UnitLoss). FollowsText l (start after.run) after.run.events) none follows)
+
+determined_on : (wanted : IndAddr) (text : Units) (after : BusNow) (came : Outcome) → UnitsDetermine wanted after came → QuietBuses → after.run.begun ≡ begun_by wanted text → FollowsText text.1 (start after.run) after.run.events → NothingLost after.run.events
+    → IsDetermined wanted text.0 (units_now after.run) came
+determined_on wanted text after came determine buses begun follows nothing =
+    subst (λ (units : List BusUnit). IsDetermined wanted units (units_now after.run) came) (ap (λ (z : Begun). map shown (start_of z).units) begun ∙ shown_rest text.0)
+    (determine (start after.run) after.run.events refl (buses text.1 (start after.run) after.run.events follows nothing))
+
+pub given_sim : (wanted : IndAddr) (text : Units) (bus after : BusNow) (came : Outcome) → BeginsAs wanted (Ok text) bus → ((one other : Begun) → lines_of one ≡ lines_of other → one ≡ other) → QuietBuses → QuietTexts → lines_of after.run.begun ≡ lines_of bus.run.begun
     → IsFresh (start after.run) → IsLegal (start after.run) after.run.events → FollowsText after.run.begun.losses (start after.run) after.run.events
-    → ((from : AddressWorld) (events : List AddressEvent) → told_of after.run ≡ Told from events → AlwaysKeepsUnits wanted from events) → GivesOver wanted came after.faults (story after.run) → GivesOnBus wanted text after came
-given_on wanted text bus after came b law same fresh legal follows units over =
+    → ((from : AddressWorld) (events : List AddressEvent) → told_of after.run ≡ Told from events → AlwaysKeepsUnits wanted from events) → UnitsDetermine wanted after came → bus.faults ≡ 0
+    → WhereExact (EndsSo wanted came) (story after.run) → WhereTold (λ places. AcknowledgesRightly (entries places)) (story after.run)
+    → IfOk came (λ assigned. ¬ Rose bus.faults after.faults → WhereExact (Leaves wanted assigned) (story after.run)) → IfErr came (λ fault. FailsBy fault bus.faults after.faults) → GivesOnBus wanted text after came
+given_sim wanted text bus after came b law buses texts same fresh legal follows units determine none ended acknowledges leaves cause =
     let begun : after.run.begun ≡ begun_by wanted text = law after.run.begun bus.run.begun same ∙ run_begun wanted text bus b in
+    let follows_it : FollowsText text.1 (start after.run) after.run.events = subst (λ (losses : List UnitLoss). FollowsText losses (start after.run) after.run.events) (ap (λ (z : Begun). z.losses) begun) follows in
     record {
       begun = begun;
       fresh = fresh;
       legal = legal;
-      follows = subst (λ (losses : List UnitLoss). FollowsText losses (start after.run) after.run.events) (ap (λ (z : Begun). z.losses) begun) follows;
+      follows = follows_it;
       units = units (start after.run) after.run.events refl;
-      over = over;
+      nothing_lost = lost_nothing text after texts follows_it;
+      determined = determined_on wanted text after came determine buses begun follows_it;
+      over = over_of wanted came bus.faults after.faults (story after.run) none ended acknowledges leaves cause;
     }
-
-pub given_sim : (wanted : IndAddr) (text : Units) (bus after : BusNow) (came : Outcome) → BeginsAs wanted (Ok text) bus → ((one other : Begun) → lines_of one ≡ lines_of other → one ≡ other) → lines_of after.run.begun ≡ lines_of bus.run.begun
-    → IsFresh (start after.run) → IsLegal (start after.run) after.run.events → FollowsText after.run.begun.losses (start after.run) after.run.events
-    → ((from : AddressWorld) (events : List AddressEvent) → told_of after.run ≡ Told from events → AlwaysKeepsUnits wanted from events) → bus.faults ≡ 0
-    → WhereExact (EndsSo wanted came) (story after.run) → WhereTold (λ places. AcknowledgesRightly (entries places)) (story after.run)
-    → IfOk came (λ assigned. ¬ Rose bus.faults after.faults → WhereExact (Leaves wanted assigned) (story after.run)) → IfErr came (λ fault. FailsBy fault bus.faults after.faults) → GivesOnBus wanted text after came
-given_sim wanted text bus after came b law same fresh legal follows units none ended acknowledges leaves cause =
-    given_on wanted text bus after came b law same fresh legal follows units (over_of wanted came bus.faults after.faults (story after.run) none ended acknowledges leaves cause)
 
 -- what was judged has begun a bus on which nothing was done
 pub begun_new : (wanted : IndAddr) (j : Result Units Stop) (bus : BusNow) → BeginsAs wanted j bus → (bus.run.events ≡ []) × (bus.faults ≡ 0)

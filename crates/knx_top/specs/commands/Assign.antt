@@ -4,13 +4,15 @@
 -- the address, and gives it there.
 use Rattle.std.specs.Prelude.{ℕ, ◌≡◌, ◌≤◌, ◌+◌, ◌*◌, ◌/◌, List, [], ◌∷◌, Option, Some, None, Result, Ok, Err, IfErr, IfOk, true, option_and_then}
 use Rattle.std.specs.Option.{option_map}
-use Rattle.address_commission.specs.declared.assigned.Assigned.{Assigned}
-use Rattle.address_commission.specs.declared.assigned.AssignFault.{AssignFault}
-use Rattle.address_commission.specs.Ends.{EndsSo, FailsBy, Leaves}
+use Rattle.address_talk.specs.declared.assigned.Assigned.{Assigned}
+use Rattle.address_talk.specs.declared.assigned.AssignFault.{AssignFault}
+use Rattle.address_talk.specs.Ends.{EndsSo, FailsBy, Leaves}
+use Rattle.address_law.specs.Determined.{IsDetermined}
 use Rattle.address_commission.specs.Exact.{WhereExact}
 use Rattle.address_sim.specs.Driven.{BusNow}
 use Rattle.address_sim.specs.Follows.{FollowsText}
 use Rattle.address_sim.specs.Told.{Begun, start, story, units_now}
+use Rattle.address_sim.specs.Undisturbed.{NothingLost}
 use Rattle.address_text.specs.UnitText.{unit_reading}
 use Rattle.address_world.specs.AddressLegal.{IsFresh, IsLegal}
 use Rattle.address_world.specs.Keeps.{AlwaysKeepsUnits}
@@ -127,13 +129,16 @@ abbrev pub assign_sim_tests : AssignSimWords → Reading → List (Option Stop)
 assign_sim_tests words reading = fault_in (Some words.units) reading ∷ text_refused file.Script (unit_reading (octets_of reading)) ∷ []
 
 -- The bus is as it was left: it began as the text says, all that happened on it is legal and follows the text. At every moment each unit has its start's
--- address, or is in programming mode and has the wanted one.
+-- address, or is in programming mode and has the wanted one. Where nothing was lost, as with a text
+-- without losses, the units of the text determine what came of it, and the units at the end.
 pub record GivesOnBus (wanted : IndAddr) (text : Units) (after : BusNow) (came : Outcome) : Type 0 where
   pub begun : after.run.begun ≡ begun_by wanted text
   pub fresh : IsFresh (start after.run)
   pub legal : IsLegal (start after.run) after.run.events
   pub follows : FollowsText text.1 (start after.run) after.run.events
   pub units : AlwaysKeepsUnits wanted (start after.run) after.run.events
+  pub nothing_lost : text.1 ≡ [] → NothingLost after.run.events
+  pub determined : NothingLost after.run.events → IsDetermined wanted text.0 (units_now after.run) came
   pub over : GivesOver wanted came after.faults (story after.run)
 
 -- memory is wanting before anything is done; or the address was given on the bus, and its units are told as they now are

@@ -13,7 +13,10 @@ ghost use Rattle.call_parts.specs.Judged.{Gives as GivesAs, unless_refused};
 ghost use Rattle.knx_top.specs.commands.Assign.{BeginsAs, GivesOr, GivesSim, OverLink, RunsAssign, RunsAssignSim, TellsOutcome, Units, assign_sim_words, assign_sim_words_of, assign_words, assign_words_of, judged_units, tunnel_beside};
 
 use address_commission::{Plain, assign};
-use address_sim::{AddressBus, Unit, UnitScript, what_stays_is_all_that_it_began_with};
+use address_sim::{
+    AddressBus, Unit, UnitScript, a_bus_that_loses_nothing_is_calm,
+    a_text_without_losses_loses_nothing, what_stays_is_all_that_it_began_with,
+};
 use address_text::read_units;
 use call_parts::{
     AssignEnd, End, GatewayAddress, Reading, address_in, read_named, read_of, refusal,
@@ -146,6 +149,8 @@ fn give_on<R: Wait>(
     ensures { (text : Units) → BeginsAs wanted (Ok text) bus → GivesSim wanted text units.old units.new result }
 {
     what_stays_is_all_that_it_began_with();
+    a_bus_that_loses_nothing_is_calm();
+    a_text_without_losses_loses_nothing();
     let (bus, came) = assign(rt, bus, wanted);
     bus.keeps();
     *units = bus;

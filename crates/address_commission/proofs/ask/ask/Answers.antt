@@ -1,7 +1,7 @@
 use Rattle.std.proofs.Common.{OnOk, subst, sym}
-use Rattle.address_commission.specs.Ends.{TalkFails}
+use Rattle.address_commission.specs.Calls.{TalkFails}
 use Rattle.address_commission.specs.Listening.{HasWaited, ListensFor}
-use Rattle.address_commission.specs.Rounds.{rounds}
+use Rattle.address_talk.specs.Rounds.{rounds}
 use Rattle.line_model.specs.Moments.{moments}
 use Rattle.address_commission.proofs.Calls.{handed_on}
 use Rattle.address_commission.proofs.Asks.{asked_goes, listens_for, out_goes}

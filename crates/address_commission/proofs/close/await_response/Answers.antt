@@ -2,7 +2,7 @@ use Rattle.std.proofs.Common.{◌∙◌, ◌-◌, ◌≤◌, ap, subst, sym, inl
 use Rattle.tunnel_link.specs.Alone.{EndsNone}
 use Rattle.tunnel_link.proofs.Alone.{both_each, none_each}
 use Rattle.tunnel_link.proofs.Stories.{goes_again, goes_same}
-use Rattle.address_commission.specs.Ends.{LeavesSince}
+use Rattle.address_commission.specs.Calls.{LeavesSince}
 use Rattle.address_commission.proofs.Closing.{closes_on, closes_same}
 use Rattle.address_commission.proofs.Leaving.{paces_then, paces_same, waited}
 use Rattle.address_commission.proofs.Exacts.{where_exact}

@@ -6,7 +6,7 @@ use Rattle.tunnel_link.specs.Adds.{Growing}
 use Rattle.tunnel_link.specs.Alone.{Each, EndsNone}
 use Rattle.tunnel_link.specs.Goes.{GoesOn}
 use Rattle.address_commission.specs.Going.{Going}
-use Rattle.address_commission.specs.Ends.{ClosesSo, LeavesSince, PaceKept}
+use Rattle.address_commission.specs.Calls.{ClosesSo, LeavesSince, PaceKept}
 use Rattle.address_commission.specs.Exact.{WhereExact}
 use Rattle.address_commission.proofs.close.await_response.Given as goal
 

@@ -1,4 +1,4 @@
-use Rattle.address_commission.proofs.Ends.{units_kept}
+use Rattle.address_commission.proofs.Ends.{units_determined, units_kept}
 use Rattle.address_commission.proofs.giving.assign.Goals as goal
 
 pub returns-clause-units : goal.returns-clause-units
@@ -8,3 +8,8 @@ returns-clause-units g c =
 
 pub returns-clause-leaves : goal.returns-clause-leaves
 returns-clause-leaves g c = rw c.end-link.ensures (rw (← c.begin-tunnel.ensures.link) c.talk-result.ensures.leaves)
+
+pub returns-clause-determined : goal.returns-clause-determined
+returns-clause-determined g c =
+    rw c.end-link.ensures (units_determined c.args.wanted c.talk-result.result c.talk-result.new.tunnel.known (g.L.Link.story c.talk-result.new.tunnel.link) (g.L.AddressLink.told c.talk-result.new.tunnel.link) c.talk-result.ensures.ends c.keeps.ensures.record
+    (rw (← c.end-link.ensures) c.tells.ensures) c.talk-result.ensures.tries c.the_units_determine_what_comes_of_it.ensures)

@@ -1,5 +1,5 @@
 use Rattle.std.proofs.Common.{arith, subst, sym}
-use Rattle.address_commission.specs.Ends.{EndsSo}
+use Rattle.address_talk.specs.Ends.{EndsSo}
 use Rattle.address_commission.proofs.Calls.{handed_on}
 use Rattle.address_commission.proofs.Closing.{answered_at, closing_fails, left_so, rose_from}
 use Rattle.address_commission.proofs.Ends.{fails_before, new_listens, open_begins}

@@ -1,6 +1,6 @@
 use Rattle.std.proofs.Common.{subst, sym, ◌∙◌, arith, Ok}
-use Rattle.address_commission.specs.Ends.{TalkGoes}
-use Rattle.address_commission.specs.Going.{SameRounds}
+use Rattle.address_commission.specs.Calls.{TalkGoes}
+use Rattle.address_talk.specs.Rounds.{SameRounds}
 use Rattle.address_commission.proofs.Calls.{handed_on, goes_then, none_awaited}
 use Rattle.address_commission.proofs.Exacts.{told_too}
 use Rattle.address_commission.proofs.Pacing.{not_both}

@@ -1,6 +1,6 @@
 use Rattle.std.proofs.Common.{◌≡◌, ◌≤◌, None, Ok}
-use Rattle.address_commission.specs.Ends.{TalkGoes}
-use Rattle.address_commission.specs.Going.{SameRounds}
+use Rattle.address_commission.specs.Calls.{TalkGoes}
+use Rattle.address_talk.specs.Rounds.{SameRounds}
 use Rattle.address_commission.proofs.open.open.Given as goal
 
 -- the talk goes on, and no request is put

@@ -1,7 +1,7 @@
 use Rattle.std.proofs.Common.{subst, sym}
 use Rattle.tunnel_link.specs.Adds.{Growing, Acts}
-use Rattle.address_commission.specs.Going.{SameRounds}
-use Rattle.address_commission.specs.Ends.{TalkGoes}
+use Rattle.address_talk.specs.Rounds.{SameRounds}
+use Rattle.address_commission.specs.Calls.{TalkGoes}
 use Rattle.address_commission.proofs.Calls.{handed_on, told_ok, told_failed, paced_so_far, act_talks, act_goes}
 use Rattle.address_commission.proofs.Closing.{act_closes, ends_none_of, goes_same_rounds}
 use Rattle.address_commission.proofs.turn.act.Goals as goal

@@ -1,7 +1,7 @@
 use Rattle.std.proofs.Common.{subst, sym, ◌∙◌}
 use Rattle.tunnel_link.specs.Adds.{Growing, PollAdds}
-use Rattle.address_commission.specs.Going.{SameRounds}
-use Rattle.address_commission.specs.Ends.{TalkGoes}
+use Rattle.address_talk.specs.Rounds.{SameRounds}
+use Rattle.address_commission.specs.Calls.{TalkGoes}
 use Rattle.address_commission.proofs.Calls.{handed_on, told_ok, told_failed, poll_until, poll_talks, poll_ends}
 use Rattle.address_commission.proofs.Closing.{poll_closes, goes_same_rounds}
 use Rattle.address_commission.proofs.Exacts.{where_exact, told_too}

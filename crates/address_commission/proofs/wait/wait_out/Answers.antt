@@ -1,6 +1,6 @@
 use Rattle.std.proofs.Common.{◌∙◌, arith, subst, sym, Ok}
-use Rattle.address_commission.specs.Ends.{TalkGoes}
-use Rattle.address_commission.specs.Going.{SameRounds}
+use Rattle.address_commission.specs.Calls.{TalkGoes}
+use Rattle.address_talk.specs.Rounds.{SameRounds}
 use Rattle.address_commission.proofs.Asks.{awaits_for, still_listens_for}
 use Rattle.address_commission.proofs.Calls.{goes_then, handed_on}
 use Rattle.address_commission.proofs.Exacts.{where_exact}

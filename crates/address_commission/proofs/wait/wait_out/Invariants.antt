@@ -1,8 +1,7 @@
 use Rattle.std.proofs.Common.{◌≡◌, ◌≤◌, None, Ok}
-use Rattle.address_commission.specs.Ends.{TalkGoes}
-use Rattle.address_commission.specs.Going.{SameRounds}
+use Rattle.address_commission.specs.Calls.{TalkGoes}
+use Rattle.address_talk.specs.Rounds.{SameRounds, rounds}
 use Rattle.address_commission.specs.Listening.{ListensFor}
-use Rattle.address_commission.specs.Rounds.{rounds}
 use Rattle.line_model.specs.Moments.{moments}
 use Rattle.address_commission.specs.Exact.{WhereExact}
 use Rattle.address_commission.proofs.wait.wait_out.Given as goal

@@ -1,15 +1,15 @@
 -- What a client that gives an address put and heard, by the moments of its link's record (KNX standard 3/6/3, common EMI; ISO/IEC 14543-3-1, application
 -- layer): a round for each request that it put, with the frame, its confirmation, the first one that was taken after it, and the responses that were
 -- taken until the next one was put. The newest round first; its responses the oldest first.
-use Rattle.std.specs.Prelude.{ℕ, Bool, true, false, ◌||◌, List, [], ◌∷◌, ◌++◌, Option, Some, None, if◌then◌else◌}
+use Rattle.std.specs.Prelude.{ℕ, Bool, true, false, ◌||◌, List, [], ◌∷◌, ◌++◌, Option, Some, None, if◌then◌else◌, ◌≡◌}
 use Rattle.knx_model.specs.declared.address.IndAddr.{IndAddr}
 use Rattle.knx_model.specs.declared.frames.cemi.Ldata.{Ldata}
 use Rattle.knx_model.specs.declared.frames.tpdu.Apdu.{Apdu}
 use Rattle.knx_model.specs.declared.frames.tpdu.Apdu.TheVariants.{AddressRead, AddressResponse}
 use Rattle.line_model.specs.Reading.{ldata_in, is_con, is_ind}
-use Rattle.line_model.specs.Record.{Entry, is_got}
+use Rattle.line_model.specs.Record.{Entry, is_got, Placed}
 use Rattle.line_model.specs.ClientView.{Deed, Puts, Takes, Loses, Nothing}
-use Rattle.line_model.specs.Moments.{Moment, is_loss}
+use Rattle.line_model.specs.Moments.{Moment, is_loss, moments}
 use Rattle.address_world.specs.AddressWorld.{broadcast}
 
 pub record Round : Type 0 where
@@ -82,3 +82,20 @@ quiet_since (x ∷ r) = if is_got x.what then x.now else quiet_since r
 abbrev pub has_lost : List Moment → Bool
 has_lost [] = false
 has_lost (m ∷ l) = is_loss m.what || has_lost l
+
+-- ---- no request is put
+
+-- no request was put: the newest round has the same frame, and the others are the same
+abbrev pub GoOn : List Round → List Round → Type 0
+GoOn [] [] = Unit {0}
+GoOn (r ∷ rs) (s ∷ ss) = (s.frame ≡ r.frame) × (ss ≡ rs)
+GoOn _ _ = ⊥
+
+abbrev pub SameRounds : List Placed → List Placed → Type 0
+SameRounds old new = GoOn (rounds (moments old)) (rounds (moments new))
+
+-- what was added to the places, in which no request is put
+pub record GoesOnFrom (old new : List Placed) : Type 0 where
+  pub added : List Placed
+  pub all : new ≡ added ++ old
+  pub rounds_go_on : SameRounds old new

@@ -10,8 +10,8 @@ use Rattle.line_model.specs.LinkStory.{newest_time}
 use Rattle.line_model.specs.Moments.{moments}
 use Rattle.line_model.specs.Record.{Placed, entries, is_poll}
 use Rattle.line_model.specs.Waiting.{longest_poll}
-use Rattle.address_commission.specs.Rounds.{rounds, has_lost}
-use Rattle.address_commission.specs.Talk.{HeardOut}
+use Rattle.address_talk.specs.Rounds.{rounds, has_lost}
+use Rattle.address_talk.specs.Talk.{HeardOut}
 
 -- the channel wasn't lost, and nothing can be put in it yet, or the newest request isn't heard out
 pub record Awaits (wanted : IndAddr) (places : List Placed) : Type 0 where

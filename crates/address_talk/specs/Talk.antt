@@ -14,9 +14,9 @@ use Rattle.line_model.specs.Moments.{moments}
 use Rattle.address_world.specs.declared.asked.Asked.{Asked}
 use Rattle.address_world.specs.declared.asked.Asked.TheVariants.{Read, Connect, Disconnect, Write}
 use Rattle.address_world.specs.Keeps.{frame_of}
-use Rattle.address_commission.specs.Rounds.{Round, rounds, answers, quiet_since, has_lost}
-use Rattle.address_commission.specs.declared.assigned.Assigned.{Assigned}
-use Rattle.address_commission.specs.declared.assigned.Assigned.TheVariants.{Done, NoUnit, Several, Taken, Unconfirmed}
+use Rattle.address_talk.specs.Rounds.{Round, rounds, answers, quiet_since, has_lost}
+use Rattle.address_talk.specs.declared.assigned.Assigned.{Assigned}
+use Rattle.address_talk.specs.declared.assigned.Assigned.TheVariants.{Done, NoUnit, Several, Taken, Unconfirmed}
 
 -- ---- the parts
 

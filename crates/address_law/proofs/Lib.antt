@@ -1,0 +1,10 @@
+pub mod Programmed
+pub mod Units
+pub mod Rides
+pub mod Talks
+pub mod Riding
+pub mod Living
+pub mod Parts
+pub mod Answers
+pub mod Unwritten
+pub mod Law

@@ -1,0 +1,131 @@
+-- How giving an address ends, by the link's record: what came of it is read off the talk, in which the channel wasn't lost and few datagrams came;
+-- after that the channel is ended, and no request is put. A fault comes exactly at its cause.
+use Rattle.std.specs.Prelude.{◌≡◌, ◌⊎◌, ℕ, suc, ◌+◌, ◌≤◌, true, false, List, [], ◌∷◌, ◌++◌, length, reverse, if◌then◌else◌, Result, Ok, Err, ◌<◌}
+use Rattle.knx_model.specs.declared.address.IndAddr.{IndAddr}
+use Rattle.knx_model.specs.Outside.{Rose}
+use Rattle.line_model.specs.declared.fault.Try.{Try}
+use Rattle.line_model.specs.Asks.{HasPlace}
+use Rattle.line_model.specs.ClientView.{channel}
+use Rattle.line_model.specs.ChannelLost.{answer_wait}
+use Rattle.line_model.specs.Closing.{asks_to_end, most_datagrams}
+use Rattle.line_model.specs.Haste.{KeepsPaces}
+use Rattle.line_model.specs.Record.{Placed, entries, is_got}
+use Rattle.line_model.specs.Waiting.{longest_poll}
+use Rattle.line_model.specs.Moments.{moments}
+use Rattle.line_model.specs.Faults.{datagrams_taken, flood, tries}
+use Rattle.address_talk.specs.Rounds.{rounds, has_lost, GoesOnFrom}
+use Rattle.address_talk.specs.Pace.{PacedUntil, Paced}
+use Rattle.address_talk.specs.Talk.{Gives, HeardOut, TalksRightly}
+use Rattle.line_model.specs.LinkStory.{newest_time}
+use Rattle.tunnel_link.specs.Alone.{Each, EndsNone}
+use Rattle.address_talk.specs.declared.assigned.Assigned.{Assigned}
+use Rattle.address_talk.specs.declared.assigned.AssignFault.{AssignFault}
+use Rattle.address_talk.specs.declared.assigned.AssignFault.TheVariants.{TunnelLost, LinkFailed, GatewayRefused, Flooded, NoMemory}
+
+-- it talked rightly, and there is no cause yet to give it up
+pub record Stands (wanted : IndAddr) (places : List Placed) : Type 0 where
+  pub rightly : TalksRightly wanted places
+  pub kept : has_lost (moments places) ≡ false
+  pub few : datagrams_taken (entries places) < flood
+  pub paced : Paced wanted places
+
+-- ---- what came of it
+
+-- of the places up to the answer, where the channel is open
+pub record AnsweredBy (wanted : IndAddr) (assigned : Assigned) (talk : List Placed) : Type 0 where
+  pub stands : Stands wanted talk
+  pub place : HasPlace (channel (entries talk))
+  pub heard_out : HeardOut wanted (rounds (moments talk)) (entries talk)
+  pub gives : Gives wanted (rounds (moments talk)) assigned
+
+-- and of those after it, in which no request is put
+pub record Answered (wanted : IndAddr) (assigned : Assigned) (places : List Placed) : Type 0 where
+  pub talk : List Placed
+  pub answered : AnsweredBy wanted assigned talk
+  pub closes : GoesOnFrom talk places
+  pub rightly : TalksRightly wanted places
+  pub keeps : KeepsPaces (entries places)
+
+-- ---- the end of the channel
+
+-- the first thing that was added asks to end the channel, and no other asks to end it while it is open
+pub record EndsOnce (old added : List Placed) : Type 0 where
+  pub later : List Placed
+  pub request : Placed
+  pub parts : added ≡ later ++ request ∷ []
+  pub asks : asks_to_end request.what ≡ true
+  pub once : Each EndsNone (request ∷ old) later
+
+-- The response is awaited: until the channel was lost, as it is by the response, 10,000 ms passed or 64 datagrams came; and no longer. Where it was lost,
+-- that was in the last poll.
+abbrev pub datagrams_in : List Placed → ℕ
+datagrams_in [] = 0
+datagrams_in (p ∷ added) = if is_got p.what.what then suc (datagrams_in added) else datagrams_in added
+
+pub record AwaitsResponse (old added : List Placed) : Type 0 where
+  pub over : (has_lost (moments (added ++ old)) ≡ true) ⊎ ((newest_time (entries (added ++ old)) ≡ newest_time (entries old) + answer_wait) ⊎ (datagrams_in added ≡ most_datagrams))
+  pub in_time : newest_time (entries (added ++ old)) ≤ newest_time (entries old) + answer_wait
+  pub few : datagrams_in added ≤ most_datagrams
+  pub last : List Placed
+  pub older : List Placed
+  pub parts : added ≡ last ++ older
+  pub kept : has_lost (moments (older ++ old)) ≡ false
+  pub short : newest_time (entries (added ++ old)) ≤ newest_time (entries (older ++ old)) + longest_poll
+
+-- after these places
+pub record LeavesOn (old new : List Placed) : Type 0 where
+  pub added : List Placed
+  pub all : new ≡ added ++ old
+  pub ends : EndsOnce old added
+  pub awaits : AwaitsResponse old added
+
+-- after the answer
+pub record Leaves (wanted : IndAddr) (assigned : Assigned) (places : List Placed) : Type 0 where
+  pub talk : List Placed
+  pub answered : AnsweredBy wanted assigned talk
+  pub leaves : LeavesOn talk places
+
+-- ---- faults
+
+abbrev pub FailsSo : AssignFault → List Placed → Type 0
+FailsSo TunnelLost places = has_lost (moments places) ≡ true
+FailsSo LinkFailed places = Unit {0}
+FailsSo (GatewayRefused three) places = tries (entries places) ≡ reverse three
+FailsSo Flooded places = datagrams_taken (entries places) ≡ flood
+FailsSo (NoMemory want) places = Unit {0}
+
+-- before there was an answer
+pub record FailsRightly (wanted : IndAddr) (fault : AssignFault) (places : List Placed) : Type 0 where
+  pub cause : FailsSo fault places
+  pub rightly : TalksRightly wanted places
+  pub paced : PacedUntil wanted places
+
+-- after it, at the end of the channel: not for the loss of the channel, nor for a failing link, nor for a flood
+abbrev pub ComesLate : AssignFault → Type 0
+ComesLate TunnelLost = ⊥
+ComesLate LinkFailed = ⊥
+ComesLate (GatewayRefused three) = Unit {0}
+ComesLate Flooded = ⊥
+ComesLate (NoMemory want) = Unit {0}
+
+pub record FailsLate (wanted : IndAddr) (fault : AssignFault) (places : List Placed) : Type 0 where
+  pub cause : FailsSo fault places
+  pub late : ComesLate fault
+  pub assigned : Assigned
+  pub answered : Answered wanted assigned places
+
+abbrev pub EndsSo : IndAddr → Result Assigned AssignFault → List Placed → Type 0
+EndsSo wanted (Ok assigned) places = Answered wanted assigned places
+EndsSo wanted (Err fault) places = FailsRightly wanted fault places ⊎ FailsLate wanted fault places
+
+-- refused connects are told of three tries
+abbrev pub HasThreeTries : Result Assigned AssignFault → Type 0
+HasThreeTries came = (three : List Try) → came ≡ Err (GatewayRefused three) → length three ≡ 3
+
+-- that the link failed is told only where its count of faults rose
+abbrev pub FailsBy : AssignFault → ℕ → ℕ → Type 0
+FailsBy TunnelLost old new = Unit {0}
+FailsBy LinkFailed old new = Rose old new
+FailsBy (GatewayRefused three) old new = Unit {0}
+FailsBy Flooded old new = Unit {0}
+FailsBy (NoMemory want) old new = Unit {0}

@@ -1,0 +1,4 @@
+pub mod Rounds
+pub mod Talk
+pub mod Pace
+pub mod Ends
