@@ -25,6 +25,7 @@ use Rattle.project_check.specs.declared.known.KnownParameter.{KnownParameter}
 use Rattle.project_check.specs.declared.links.Link.{Link}
 use Rattle.project_check.specs.declared.models.ModelIndex.{ModelIndex}
 use Rattle.project_check.specs.declared.named_models.NamedModels.{NamedModels}
+use Rattle.project_check.specs.declared.rules.Gathered.{Gathered}
 use Rattle.project_check.specs.declared.rules.Whole.{Whole}
 
 -- ---- of addresses
@@ -111,6 +112,13 @@ linked_object catalogue ss g link = if link.group == g then Some (known_object c
 abbrev pub FirstObjects : List NamedModel → List Statement → List (Option KnownObject) → Type 0
 FirstObjects catalogue ss objects = Holds objects (λ g. option_map (known_at catalogue ss) (first_linked ss g))
 
+-- of a text but of its links
+pub record Gathers (catalogue : List NamedModel) (g : Gathered) (ss : List Statement) : Type 0 where
+  pub models : AreNamed catalogue g.models.now ss
+  pub declared : Declares catalogue g.declared ss
+  pub first_objects : FirstObjects catalogue ss g.first_objects
+
+-- of a whole text
 pub record DeclaresAll (catalogue : List NamedModel) (w : Whole) (ss : List Statement) : Type 0 where
   pub models : AreNamed catalogue w.models.now ss
   pub declared : Declares catalogue w.declared ss

@@ -1,19 +1,20 @@
 //! A project that breaks no rule, or the least line that breaks one.
 
-ghost use Rattle.std.specs.Prelude.{◌≡◌, ◌≢◌, None, Some, IfOk, IfErr, OnOk, IfSome, map, slice_get, IsPermutation};
+ghost use Rattle.std.specs.Prelude.{◌≡◌, ◌≢◌, None, Some, IfOk, IfErr, OnOk, IfSome, List, map, slice_get, IsPermutation};
 ghost use Rattle.std.specs.List.Sorted.{IsStrictlyIncreasing};
 ghost use Rattle.knx_model.specs.declared.refusal.Why.TheVariants.{NoMemory as OutOfMemory};
 ghost use Rattle.knx_model.specs.Counts.{counts_of};
+ghost use Rattle.knx_model.specs.declared.catalogue.model.NamedModel.{NamedModel};
 ghost use Rattle.knx_model.specs.Rules.{first_broken, devices_of, has_device};
 ghost use Rattle.project_check.specs.Devices.{raw_of};
-ghost use Rattle.project_check.specs.Links.{AreSorted};
+ghost use Rattle.project_check.specs.Knowing.{DeclaresAll};
 
 use crate::counted::totals_of;
 use crate::devices::{ascending_devices, first_device};
 use crate::earlier::Earlier;
-use crate::links::{SortedLinks, sorted_links, sorted_links_in_threads};
+use crate::links::{link_lines, sorted, sorted_in_threads};
 use crate::named_models::NamedModels;
-use crate::rules::Whole;
+use crate::rules::{Gathered, Whole};
 use knx_model::{Catalogue, Counts, IndAddr, NoMemory, Refused, Statement, Why};
 use project_text::Project;
 use std::alloc::{AllocError, Global};
@@ -90,19 +91,15 @@ impl<'b, 'a> Checked<'b, 'a> {
     }
 }
 
-/// The first statement that breaks a rule, where the links are sorted.
-fn first_broken(
+/// The first statement that breaks a rule, where this is known of them all.
+fn first_broken_in<'a>(
     alloc: Global,
-    catalogue: &Catalogue,
-    statements: &[Statement<'_>],
-    sorted: SortedLinks,
+    whole: &Whole<'_, 'a>,
+    statements: &'a [Statement<'a>],
 ) -> Result<Option<Refused>, AllocError>
-    requires { AreSorted sorted statements.now }
-    ensures found { IfOk result (λ found. found ≡ first_broken catalogue.now statements.now) }
-    ensures never { IfOk result (λ found. IfSome found (λ refused. refused.why ≢ OutOfMemory tt)) }
+    ensures found { (catalogue : List NamedModel) → DeclaresAll catalogue whole.now statements.now → IfOk result (λ found. found ≡ first_broken catalogue statements.now) }
+    ensures never { (catalogue : List NamedModel) → DeclaresAll catalogue whole.now statements.now → IfOk result (λ found. IfSome found (λ refused. refused.why ≢ OutOfMemory tt)) }
 {
-    let models = NamedModels::of(alloc, catalogue, statements)?;
-    let whole = Whole::of(alloc, &models, statements, sorted)?;
     let mut earlier = Earlier::new(alloc)?;
     for (place, statement) in statements.iter().enumerate() {
         let repeated = earlier.add(statement)?;
@@ -116,20 +113,54 @@ fn first_broken(
     Ok(None)
 }
 
-/// The rules are checked, where the links are sorted.
-fn check_rules<'b, 'a>(
+/// The first statement that breaks a rule.
+fn first_broken(
+    alloc: Global,
+    catalogue: &Catalogue,
+    statements: &[Statement<'_>],
+) -> Result<Option<Refused>, AllocError>
+    ensures found { IfOk result (λ found. found ≡ first_broken catalogue.now statements.now) }
+    ensures never { IfOk result (λ found. IfSome found (λ refused. refused.why ≢ OutOfMemory tt)) }
+{
+    let models = NamedModels::of(alloc, catalogue, statements)?;
+    let links = link_lines(alloc, statements)?;
+    let gathered = Gathered::of(alloc, &models, statements, links.as_slice())?;
+    let whole = Whole::of(gathered, sorted(links));
+    first_broken_in(alloc, &whole, statements)
+}
+
+/// The same as `first_broken`, where the links are sorted in as many threads as there are processors.
+fn first_broken_in_threads<R: Threads + Sync>(
+    rt: &R,
+    alloc: Global,
+    catalogue: &Catalogue,
+    statements: &[Statement<'_>],
+) -> Result<Option<Refused>, AllocError>
+    ensures found { IfOk result (λ found. found ≡ first_broken catalogue.now statements.now) }
+    ensures never { IfOk result (λ found. IfSome found (λ refused. refused.why ≢ OutOfMemory tt)) }
+{
+    let models = NamedModels::of(alloc, catalogue, statements)?;
+    let links = link_lines(alloc, statements)?;
+    let gathered = Gathered::of(alloc, &models, statements, links.as_slice())?;
+    let whole = Whole::of(gathered, sorted_in_threads(rt, links));
+    first_broken_in(alloc, &whole, statements)
+}
+
+/// The project, where the first statement that breaks a rule is known.
+fn checked_by<'b, 'a>(
     alloc: Global,
     project: &'b Project<'a>,
     catalogue: &'b Catalogue,
-    sorted: SortedLinks,
+    broken: Result<Option<Refused>, AllocError>,
 ) -> Result<Checked<'b, 'a>, Refused>
-    requires { AreSorted sorted project.now.statements }
+    requires found { IfOk broken (λ found. found ≡ first_broken catalogue.now project.now.statements) }
+    requires never { IfOk broken (λ found. IfSome found (λ refused. refused.why ≢ OutOfMemory tt)) }
     ensures checked { IfOk result (λ c. c ≡ record { statements = project.now.statements; catalogue = catalogue.now }) }
     ensures sound { OnOk result (first_broken catalogue.now project.now.statements ≡ None) }
     ensures refused { IfErr result (λ e. e.why ≢ OutOfMemory tt → first_broken catalogue.now project.now.statements ≡ Some e) }
     ensures memory { IfErr result (λ e. e.why ≡ OutOfMemory tt → e.line ≡ 0) }
 {
-    match first_broken(alloc, catalogue, project.statements.as_slice(), sorted) {
+    match broken {
         Ok(None) => match ascending_devices(alloc, project.statements.as_slice()) {
             Ok(devices) => Ok(Checked {
                 project,
@@ -155,10 +186,8 @@ pub fn check<'b, 'a>(
     ensures refused { IfErr result (λ e. e.why ≢ OutOfMemory tt → first_broken catalogue.now project.now.statements ≡ Some e) }
     ensures memory { IfErr result (λ e. e.why ≡ OutOfMemory tt → e.line ≡ 0) }
 {
-    match sorted_links(alloc, project.statements.as_slice()) {
-        Ok(sorted) => check_rules(alloc, project, catalogue, sorted),
-        Err(error) => Err(out_of_memory(error)),
-    }
+    let broken = first_broken(alloc, catalogue, project.statements.as_slice());
+    checked_by(alloc, project, catalogue, broken)
 }
 
 /// The same as `check`, where the links are sorted in as many threads as there are processors.
@@ -173,10 +202,8 @@ pub fn check_in_threads<'b, 'a, R: Threads + Sync>(
     ensures refused { IfErr result (λ e. e.why ≢ OutOfMemory tt → first_broken catalogue.now project.now.statements ≡ Some e) }
     ensures memory { IfErr result (λ e. e.why ≡ OutOfMemory tt → e.line ≡ 0) }
 {
-    match sorted_links_in_threads(rt, alloc, project.statements.as_slice()) {
-        Ok(sorted) => check_rules(alloc, project, catalogue, sorted),
-        Err(error) => Err(out_of_memory(error)),
-    }
+    let broken = first_broken_in_threads(rt, alloc, catalogue, project.statements.as_slice());
+    checked_by(alloc, project, catalogue, broken)
 }
 
 /// The refusal for want of memory.

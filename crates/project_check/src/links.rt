@@ -126,26 +126,22 @@ impl SortedLinks {
     }
 }
 
-/// The links of a text in ascending order.
-pub fn sorted_links(alloc: Global, statements: &[Statement<'_>]) -> Result<SortedLinks, AllocError>
-    ensures { IfOk result (λ sorted. AreSorted sorted statements.now) }
+/// The links of a text in ascending order; as they are given they stand in the order of the text.
+pub fn sorted(links: Vec<LinkLine>) -> SortedLinks
+    ensures { (ss : List Stated) → links.items ≡ link_lines ss → AreSorted result ss }
 {
-    let mut links = link_lines(alloc, statements)?;
+    let mut links = links;
     links.sort_unstable();
-    Ok(SortedLinks::of(links))
+    SortedLinks::of(links)
 }
 
-/// The same as `sorted_links`. They are sorted in as many threads as there are processors.
-pub fn sorted_links_in_threads<R: Threads + Sync>(
-    rt: &R,
-    alloc: Global,
-    statements: &[Statement<'_>],
-) -> Result<SortedLinks, AllocError>
-    ensures { IfOk result (λ sorted. AreSorted sorted statements.now) }
+/// The same as `sorted`, in as many threads as there are processors.
+pub fn sorted_in_threads<R: Threads + Sync>(rt: &R, links: Vec<LinkLine>) -> SortedLinks
+    ensures { (ss : List Stated) → links.items ≡ link_lines ss → AreSorted result ss }
 {
-    let mut links = link_lines(alloc, statements)?;
+    let mut links = links;
     par_sort_unstable(rt, links.as_mut_slice());
-    Ok(SortedLinks::of(links))
+    SortedLinks::of(links)
 }
 
 /// Whether a link is one of these, which ascend.

@@ -7,8 +7,8 @@ ghost use Rattle.knx_model.specs.declared.project.Statement.{Statement as Stated
 ghost use Rattle.knx_model.specs.declared.project.What.TheVariants.{Device as DeviceLine, Object as ObjectLine, Link as LinkStated, Send as SendLine, Flags as FlagsLine, Param as ParamLine};
 ghost use Rattle.knx_model.specs.Rules.{rule_of, some_line, has_group, repeats_group, is_undeclared, duplicate_object, links_again, size_of_first, first_linked, differ, differs_from_first};
 ghost use Rattle.project_check.specs.Keys.{names_model};
-ghost use Rattle.project_check.specs.Knowing.{AreNamed, DeclaresAll, repeats, IsNamed};
-ghost use Rattle.project_check.specs.Links.{AreSorted, is_at};
+ghost use Rattle.project_check.specs.Knowing.{AreNamed, DeclaresAll, Gathers, repeats, IsNamed};
+ghost use Rattle.project_check.specs.Links.{AreSorted, is_at, link_lines};
 
 use crate::broken::first_broken_rule;
 use crate::by_address::ByAddress;
@@ -16,7 +16,7 @@ use crate::declared::{Declared, first_objects};
 use crate::earlier::{MOST_DEVICES, MOST_LINKS, Repeated};
 use crate::group_object::GroupObject;
 use crate::known::KnownObject;
-use crate::links::{Link, LinkLine, SortedLinks, is_linked, link_lines};
+use crate::links::{Link, LinkLine, SortedLinks, is_linked};
 use crate::named_models::NamedModels;
 use knx_model::{GroupAddr, IndAddr, Statement, What, Why};
 use std::alloc::{AllocError, Global};
@@ -30,6 +30,35 @@ const TOO_MANY_DEVICES: Why = Why::TooMany {
 const TOO_MANY_LINKS: Why = Why::TooMany {
     limit: MOST_LINKS as u32,
 };
+
+/// What is known of a whole text but of its links: what it declares, and what is known of the group object of the first link of each
+/// group, none where the group has no link.
+#[derive(Drop)]
+pub struct Gathered<'b, 'a> {
+    pub models: &'b NamedModels<'a>,
+    pub declared: Declared<'b, 'a>,
+    pub first_objects: ByAddress<Option<KnownObject>>,
+}
+
+impl<'b, 'a> Gathered<'b, 'a> {
+    /// What is known of these statements, of which these are the links in the order of the text.
+    pub fn of(
+        alloc: Global,
+        models: &'b NamedModels<'a>,
+        statements: &'a [Statement<'a>],
+        links: &[LinkLine],
+    ) -> Result<Gathered<'b, 'a>, AllocError>
+        ensures { IfOk result (λ gathered. (catalogue : List NamedModel) → AreNamed catalogue models.now statements.now → links.now ≡ link_lines statements.now → Gathers catalogue gathered statements.now) }
+    {
+        let declared = Declared::by_all(alloc, models, statements)?;
+        let first_objects = first_objects(alloc, &declared, links)?;
+        Ok(Gathered {
+            models,
+            declared,
+            first_objects,
+        })
+    }
+}
 
 /// What is known of a whole text: what it declares, what is known of the group object of the first link of each group, none where
 /// the group has no link, the place of the first `link` line that repeats a link of an earlier one, and its links in ascending
@@ -75,26 +104,17 @@ fn repeats_group(groups: &[GroupAddr]) -> bool
 }
 
 impl<'b, 'a> Whole<'b, 'a> {
-    /// What is known of these statements, of which these are the links.
-    pub fn of(
-        alloc: Global,
-        models: &'b NamedModels<'a>,
-        statements: &'a [Statement<'a>],
-        sorted: SortedLinks,
-    ) -> Result<Whole<'b, 'a>, AllocError>
-        requires { AreSorted sorted statements.now }
-        ensures { IfOk result (λ whole. (catalogue : List NamedModel) → AreNamed catalogue models.now statements.now → DeclaresAll catalogue whole statements.now) }
+    /// What is known where these are the links.
+    pub fn of(gathered: Gathered<'b, 'a>, sorted: SortedLinks) -> Whole<'b, 'a>
+        ensures { (catalogue : List NamedModel) (ss : List Stated) → Gathers catalogue gathered.entry ss → AreSorted sorted ss → DeclaresAll catalogue result ss }
     {
-        let declared = Declared::by_all(alloc, models, statements)?;
-        let links = link_lines(alloc, statements)?;
-        let first_objects = first_objects(alloc, &declared, links.as_slice())?;
-        Ok(Whole {
-            models,
-            declared,
-            first_objects,
+        Whole {
+            models: gathered.models,
+            declared: gathered.declared,
+            first_objects: gathered.first_objects,
             first_repeat: sorted.first_repeat,
             links: sorted.links,
-        })
+        }
     }
 
     /// The first rule that a `device` line breaks.

@@ -1,56 +1,20 @@
-use Rattle.std.proofs.Common.{◌≡◌, ◌<◌, false, None, length, take, refl, sym, ap, ◌∙◌}
-use Rattle.knx_model.specs.declared.project.Statement.{Statement}
-use Rattle.knx_model.specs.Rules.{rule_of, links_again}
-use Rattle.project_check.specs.Links.{is_at}
-use Rattle.project_check.proofs.Named.{stands_named}
-use Rattle.project_check.proofs.Sound.{repeats_none, up_to_start, up_to_next}
-use Rattle.project_check.proofs.Judged.{is_broken, goes_on, none_broken, never_memory}
+use Rattle.std.proofs.Common.{◌∙◌}
 use Rattle.project_check.proofs.checked.first_broken.Goals as goal
-
-pub returns-in-Some-clause-found : goal.returns-in-Some-clause-found
-returns-in-Some-clause-found c =
-    let cat = c.args.catalogue.now in
-    let ss = c.args.statements.now in
-    let to = c.loop-place.invariant in
-    let i = c.loop-place.place in
-    let s = c.index-statements-place.result in
-    let lt : i < length ss = c.loop-place-test.true in
-    let repeats : links_again (take i ss) s.what ≡ is_at c.in_ok-whole.whole.first_repeat i = ap (λ (t : Statement). links_again (take i ss) t.what) c.index-statements-place.is ∙ to.whole_is.first_repeat i s lt to.up_to in
-    let rule = c.first_rule.ensures cat (take i ss) ss to.whole_is (stands_named ss i s lt c.index-statements-place.is) (c.in_ok-repeated.ensures.repeated (take i ss) to.earlier_is) repeats in
-    is_broken cat ss c.loop-place.earlier c.in_ok-whole.whole i s c.in-Some.why lt c.index-statements-place.is to (sym c.in-Some.is ∙ rule)
-
-pub returns-in-Some-clause-never : goal.returns-in-Some-clause-never
-returns-in-Some-clause-never c =
-    let cat = c.args.catalogue.now in
-    let ss = c.args.statements.now in
-    let to = c.loop-place.invariant in
-    let i = c.loop-place.place in
-    let s = c.index-statements-place.result in
-    let lt : i < length ss = c.loop-place-test.true in
-    let repeats : links_again (take i ss) s.what ≡ is_at c.in_ok-whole.whole.first_repeat i = ap (λ (t : Statement). links_again (take i ss) t.what) c.index-statements-place.is ∙ to.whole_is.first_repeat i s lt to.up_to in
-    let rule = c.first_rule.ensures cat (take i ss) ss to.whole_is (stands_named ss i s lt c.index-statements-place.is) (c.in_ok-repeated.ensures.repeated (take i ss) to.earlier_is) repeats in
-    never_memory cat (take i ss) ss s.what c.in-Some.why (sym c.in-Some.is ∙ rule)
-
-pub loop-place-preserved : goal.loop-place-preserved
-loop-place-preserved c =
-    let cat = c.args.catalogue.now in
-    let ss = c.args.statements.now in
-    let to = c.loop-place.invariant in
-    let i = c.loop-place.place in
-    let s = c.index-statements-place.result in
-    let lt : i < length ss = c.loop-place-test.true in
-    let repeats : links_again (take i ss) s.what ≡ is_at c.in_ok-whole.whole.first_repeat i = ap (λ (t : Statement). links_again (take i ss) t.what) c.index-statements-place.is ∙ to.whole_is.first_repeat i s lt to.up_to in
-    let rule = c.first_rule.ensures cat (take i ss) ss to.whole_is (stands_named ss i s lt c.index-statements-place.is) (c.in_ok-repeated.ensures.repeated (take i ss) to.earlier_is) repeats in
-    let kept : None ≡ rule_of cat (take i ss) ss s.what = sym c.in_default.is ∙ rule in
-    let away : is_at c.in_ok-whole.whole.first_repeat i ≡ false = sym repeats ∙ repeats_none cat (take i ss) ss s (sym kept) in
-    goes_on cat ss c.loop-place.earlier c.add.new.self c.in_ok-whole.whole i s lt c.index-statements-place.is to kept c.in_ok-repeated.ensures.added (up_to_next c.in_ok-whole.whole.first_repeat i to.up_to away)
 
 pub returns-clause-found : goal.returns-clause-found
 returns-clause-found c =
-    none_broken c.args.catalogue.now c.args.statements.now c.loop-place.earlier c.in_ok-whole.whole c.loop-place.place c.loop-place-test.false c.loop-place.invariant
-
-pub loop-place-init : goal.loop-place-init
-loop-place-init c =
     let cat = c.args.catalogue.now in
     let ss = c.args.statements.now in
-    record { earlier_is = c.in_ok-earlier.ensures; whole_is = c.in_ok-whole.ensures cat c.in_ok-models.ensures; up_to = up_to_start c.in_ok-whole.whole.first_repeat; rest_is = refl }
+    let lines = c.in_ok-links.ensures in
+    let gathered = c.in_ok-gathered.ensures cat c.in_ok-models.ensures (c.as_slice.ensures.value ∙ lines) in
+    let whole = c.of-whole.ensures cat ss gathered (c.sorted.ensures ss lines) in
+    c.first_broken_in.ensures.found cat whole
+
+pub returns-clause-never : goal.returns-clause-never
+returns-clause-never c =
+    let cat = c.args.catalogue.now in
+    let ss = c.args.statements.now in
+    let lines = c.in_ok-links.ensures in
+    let gathered = c.in_ok-gathered.ensures cat c.in_ok-models.ensures (c.as_slice.ensures.value ∙ lines) in
+    let whole = c.of-whole.ensures cat ss gathered (c.sorted.ensures ss lines) in
+    c.first_broken_in.ensures.never cat whole

@@ -1,15 +1,16 @@
 use Rattle.std.proofs.Common.{◌≡◌, None, sym, ap, ◌∙◌}
 use Rattle.std.specs.Prelude.{IsPermutation}
+use Rattle.std.proofs.lemmas.Result.{IfOk-at_ok}
 use Rattle.knx_model.specs.Rules.{first_broken, devices_of}
 use Rattle.project_check.proofs.Ascending.{sorted_ascend}
-use Rattle.project_check.proofs.checked.check_rules.Goals as goal
+use Rattle.project_check.proofs.checked.checked_by.Goals as goal
 
 pub invariant_of-result : goal.invariant_of-result
 invariant_of-result c =
     let catalogue = c.args.catalogue.now in
     let ss = c.args.project.now.statements in
-    let sound : first_broken catalogue ss ≡ None = ap (first_broken catalogue) (sym c.as_slice.ensures) ∙ sym c.in-Ok-None.ensures.found ∙ c.in-Ok-None.field-0-is in
-    let all : IsPermutation (devices_of ss) c.in-Ok.devices.items = rw (← c.as_slice-in-Ok-None.ensures) c.in-Ok.ensures.all in
+    let sound : first_broken catalogue ss ≡ None = sym (IfOk-at_ok (λ found. found ≡ first_broken catalogue ss) c.in-Ok-None.is c.requires.found) ∙ c.in-Ok-None.field-0-is in
+    let all : IsPermutation (devices_of ss) c.in-Ok.devices.items = rw (← c.as_slice.ensures) c.in-Ok.ensures.all in
     record {
       sound = sound;
       all = all;
