@@ -1,14 +1,7 @@
-use Rattle.std.proofs.Common.{◌≡◌, ◌≤◌, List, length, Ok, sym, ap, arith, ◌∙◌}
-use Rattle.knx_model.specs.declared.project.Statement.{Statement}
-use Rattle.knx_model.specs.Meaning.{meaning}
-use Rattle.knx_model.specs.Rules.{first_broken}
-use Rattle.knx_model.specs.Statements.{reading}
-use Rattle.project_text.specs.Migrated.{migrated}
-use Rattle.project_text.specs.Printing.{printed}
 use Rattle.knx_top.proofs.commands.Migrates.{text_of_made}
 use Rattle.knx_top.proofs.commands.migrate.migrated_text.Goals as goal
 
 pub returns : goal.returns
 returns c = λ catalogue none.
     text_of_made c.args.project.now.statements c.in_ok-made.made.statements c.in_ok-text.text catalogue c.in_ok-made.ensures.value (λ device. c.in_ok-made.ensures.same catalogue device) (c.in_ok-made.ensures.sound catalogue none)
-      c.in_ok-made.ensures.twice c.in_ok-made.ensures.again c.in_ok-text.ensures.text
+    c.in_ok-made.ensures.twice c.in_ok-made.ensures.again c.in_ok-text.ensures.text
