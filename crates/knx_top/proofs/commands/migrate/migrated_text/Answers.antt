@@ -1,10 +1,3 @@
-use Rattle.std.proofs.Common.{◌≡◌, ◌≤◌, List, length, Ok, sym, ap, arith, ◌∙◌}
-use Rattle.knx_model.specs.declared.project.Statement.{Statement}
-use Rattle.knx_model.specs.Meaning.{meaning}
-use Rattle.knx_model.specs.Rules.{first_broken}
-use Rattle.knx_model.specs.Statements.{reading}
-use Rattle.project_text.specs.Migrated.{migrated}
-use Rattle.project_text.specs.Printing.{printed}
 use Rattle.knx_top.proofs.commands.Migrates.{text_of_made}
 use Rattle.knx_top.proofs.commands.migrate.migrated_text.Goals as goal
 
