@@ -1,15 +1,13 @@
 //! Several workers at once, over a simulated line with a device for each job.
 
-ghost use Rattle.std.specs.Prelude.{◌<◌, length, IfOk};
-ghost use Rattle.std.specs.List.{AllByRecursion};
+ghost use Rattle.std.specs.Prelude.{IfOk};
 ghost use Rattle.bus_sim.specs.RunNow.{story};
-ghost use Rattle.hub_work.specs.Requests.{IsTurnInRange};
 ghost use Rattle.knx_model.specs.Device.{Fits};
 ghost use Rattle.line_model.specs.LinkStory.{IsNewLink};
 
 use bus_sim::{Refused, Script, SimBus};
-use hub_core::{CheckPlan, GroupTurn, HubJob, JobPlan, LoadPlan, LogWhat};
-use knx_model::{GroupAddr, GroupService, Image, IndAddr, List, NoMemory, Octets};
+use hub_core::{CheckPlan, HubJob, JobPlan, LoadPlan, LogWhat};
+use knx_model::{Image, IndAddr, List, NoMemory, Octets};
 use line_fixed::FixedWatcher;
 use line_model::{Gate, JobProgress, Open, Report};
 use shared_hub::commission;
@@ -65,36 +63,6 @@ fn blank_line(alloc: Global) -> Result<SimBus, Refused>
     line.load(alloc, TUNNEL, &devices, &script)?;
     line.keeps(); // what each run keeps, for the proofs of its caller
     Ok(line)
-}
-
-/// A line with the first device, blank, and the last, which runs this image.
-#[tactic(auto, using(bus_sim::proofs::New::new_line))]
-fn line_with_one_that_runs(alloc: Global, image: Image) -> Result<SimBus, Refused>
-    requires { Fits image }
-    ensures { IfOk result (λ line. IsNewLink (story line.run)) }
-{
-    let script = Script {
-        lines: List::new(alloc),
-    };
-    let mut line = SimBus::empty(alloc);
-    let devices = [(DEVICES[0], None), (DEVICES[3], Some(image))];
-    line.load(alloc, TUNNEL, &devices, &script)?;
-    line.keeps();
-    Ok(line)
-}
-
-/// A group telegram that reads 1/2/3, and doesn't go after the jobs.
-fn one_read(alloc: Global) -> Result<List<GroupTurn>, NoMemory>
-    ensures range { IfOk result (AllByRecursion IsTurnInRange) }
-    ensures few { IfOk result (λ turns. length turns < 4294967296) }
-{
-    let mut turns = List::new(alloc);
-    turns.push(GroupTurn {
-        after: false,
-        group: GroupAddr { raw: 0x0A03 },
-        service: GroupService::Read,
-    })?;
-    Ok(turns)
 }
 
 /// A load of each device, and then a check of the first.
@@ -235,40 +203,5 @@ fn one_worker_takes_one_job_after_another(rt: HostRuntime) -> Result<(), Fail> {
     let report = run(&rt, rt.alloc(), 1, &gate)?;
     assert_eq!(rt; done_in(&report), 5);
     assert_eq!(rt; gate.gave_up.load(Ordering::SeqCst), 1);
-    Ok(())
-}
-
-/// The telegram is told sent before the job has its end, and the device that runs has answered it.
-#[test]
-fn a_telegram_goes_while_a_job_is_held(rt: HostRuntime) -> Result<(), Fail> {
-    let alloc = rt.alloc();
-    let gate = HoldsTheFirst::new();
-    let line = line_with_one_that_runs(alloc, image(alloc)?)?;
-    let mut jobs = List::new(alloc);
-    let plan = JobPlan::Load(LoadPlan::of(image(alloc)?));
-    jobs.push(HubJob {
-        device: DEVICES[0],
-        plan,
-    })?;
-    assert!(rt; jobs.len() < 100);
-    let groups = one_read(alloc)?;
-    let nobody: Option<FixedWatcher> = None;
-    let (_line, report, _) = commission(&rt, alloc, jobs, groups, line, 1, &gate, nobody);
-    assert!(rt; report.fault.is_none());
-    assert_eq!(rt; gate.gave_up.load(Ordering::SeqCst), 1);
-    let mut is_sent = false;
-    for entry in report.log.as_slice() {
-        match entry.what {
-            LogWhat::Sent(_) => is_sent = true,
-            LogWhat::Done(_) => assert!(rt; is_sent),
-            _ => {}
-        }
-    }
-    assert!(rt; is_sent);
-    assert_eq!(rt; done_in(&report), 1);
-    assert_eq!(rt; report.heard.len(), 1);
-    for heard in report.heard.as_slice() {
-        assert_eq!(rt; heard.from.raw, DEVICES[3].raw);
-    }
     Ok(())
 }

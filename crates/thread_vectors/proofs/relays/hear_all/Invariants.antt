@@ -1,5 +1,5 @@
 use Rattle.std.proofs.Common.{◌≡◌}
 use Rattle.thread_vectors.proofs.relays.hear_all.Given as goal
 
-abbrev pub invariant-loop : goal.invariant-loop
-invariant-loop g l = l.feed.router ≡ l.initial.feed.router
+abbrev pub invariant-loop-number : goal.invariant-loop-number
+invariant-loop-number g l = l.feed.router ≡ l.initial.feed.router
