@@ -13,6 +13,7 @@ ghost use Rattle.address_world.specs.AddressWorld.{AddressEvent, AddressWorld, r
 ghost use Rattle.address_world.specs.Keeps.{AlwaysKeepsUnits};
 ghost use Rattle.address_talk.specs.Ends.{EndsSo, FailsBy, HasThreeTries, Leaves};
 ghost use Rattle.address_commission.specs.Exact.{WhereExact};
+ghost use Rattle.tunnel_link.specs.Rights.{WhereTold};
 
 use crate::close::close;
 use crate::ear::Ear;
