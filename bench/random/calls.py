@@ -1,7 +1,7 @@
 """Random calls of `knx`: their words and files. Most are valid; some have one thing wrong."""
 import pathlib
 
-from formats import SIZES, any_group, individual_text, group_text
+from formats import SIZES, any_group, individual_text, group_text, number
 
 EXAMPLES = pathlib.Path(__file__).resolve().parents[2] / "examples"
 OFFICE = (EXAMPLES / "office.toml").read_bytes()
@@ -81,7 +81,7 @@ def later(r, says):
     for say in says:
         words = say.split(" ")
         if words[0] == "link":
-            links.setdefault((words[1], int(words[2], 0)), []).append(words[3])
+            links.setdefault((words[1], number(words[2])), []).append(words[3])
         else:
             rest.append(say if words[0] != "ga" else f"ga {any_word(r, words[1])} {words[2]}")
     for (device, n), groups in links.items():
