@@ -337,7 +337,7 @@ class Refusing:
         ran = subprocess.run(words, stdin=subprocess.DEVNULL, capture_output=True, env=env, check=False, timeout=LONGEST)
         return (ran.stdout.decode("utf-8", "replace"), ran.returncode), self.told(number).exists()
 
-    def each(self, words, wanted, judge=lambda: None, most=1500):
+    def each(self, words, wanted, judge=lambda: None, most=7000):
         """Refuses each growth in turn, alone and with all later ones; of more than `most` some are drawn by chance, as many in each stretch."""
         count = self.count(words)
         want(count > 0, "none of its growths is refused")
