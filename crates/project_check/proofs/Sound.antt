@@ -8,7 +8,7 @@ use Rattle.knx_model.specs.declared.project.Statement.{Statement}
 use Rattle.knx_model.specs.declared.project.What.{What}
 use Rattle.knx_model.specs.declared.refusal.Refused.{Refused}
 use Rattle.knx_model.specs.declared.refusal.Why.{Why}
-use Rattle.knx_model.specs.declared.refusal.Why.TheVariants.{DuplicateDevice, DuplicateGroup, UnknownGroup, UnknownModel, DuplicateObject, UnknownObject, DuplicateLink, UnknownParameter, OutOfRange, SizeDiffers, TooMany, NoDevice, NotLinked}
+use Rattle.knx_model.specs.declared.refusal.Why.TheVariants.{DuplicateDevice, DuplicateGroup, UnknownGroup, UnknownModel, DuplicateObject, UnknownObject, DuplicateLink, UnknownParameter, OutOfRange, SizeDiffers, TooMany, NoDevice}
 use Rattle.knx_model.specs.LeastLine.{first_refused}
 use Rattle.knx_model.specs.Rules.{rule_of, broken_at, broken_from, first_broken, links_again, repeats_group, groups_of}
 use Rattle.knx_model.specs.Rules as rules
@@ -20,7 +20,7 @@ first_none : (o : Option Refused) (rs : List Refused) → first_refused (cons_op
 first_none None rs e = (refl, e)
 first_none (Some r) rs e = absurd (cc)
 
-not_broken : (line : ℕ) (o : Option Why) → broken_at line o ≡ None → o ≡ None
+pub not_broken : (line : ℕ) (o : Option Why) → broken_at line o ≡ None → o ≡ None
 not_broken line None e = refl
 not_broken line (Some why) e = absurd (cc)
 

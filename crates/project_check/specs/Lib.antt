@@ -5,3 +5,4 @@ pub mod Devices
 pub mod Keys
 pub mod Knowing
 pub mod Links
+pub mod Parts

@@ -1,19 +1,17 @@
 //! A project that breaks no rule, or the least line that breaks one.
 
-ghost use Rattle.std.specs.Prelude.{◌≡◌, ◌≢◌, None, Some, IfOk, IfErr, OnOk, IfSome, List, map, slice_get, IsPermutation};
+ghost use Rattle.std.specs.Prelude.{◌≡◌, ◌≢◌, None, Some, IfOk, IfErr, OnOk, map, slice_get, IsPermutation};
 ghost use Rattle.std.specs.List.Sorted.{IsStrictlyIncreasing};
 ghost use Rattle.knx_model.specs.declared.refusal.Why.TheVariants.{NoMemory as OutOfMemory};
 ghost use Rattle.knx_model.specs.Counts.{counts_of};
-ghost use Rattle.knx_model.specs.declared.catalogue.model.NamedModel.{NamedModel};
 ghost use Rattle.knx_model.specs.Rules.{first_broken, devices_of, has_device};
 ghost use Rattle.project_check.specs.Devices.{raw_of};
-ghost use Rattle.project_check.specs.Knowing.{DeclaresAll};
 
 use crate::counted::totals_of;
 use crate::devices::{ascending_devices, first_device};
-use crate::earlier::Earlier;
 use crate::links::{link_lines, sorted, sorted_in_threads};
 use crate::named_models::NamedModels;
+use crate::parts::{first_between, first_in_threads};
 use crate::rules::{Gathered, Whole};
 use knx_model::{Catalogue, Counts, IndAddr, NoMemory, Refused, Statement, Why};
 use project_text::Project;
@@ -91,59 +89,35 @@ impl<'b, 'a> Checked<'b, 'a> {
     }
 }
 
-/// The first statement that breaks a rule, where this is known of them all.
-fn first_broken_in<'a>(
-    alloc: Global,
-    whole: &Whole<'_, 'a>,
-    statements: &'a [Statement<'a>],
-) -> Result<Option<Refused>, AllocError>
-    ensures found { (catalogue : List NamedModel) → DeclaresAll catalogue whole.now statements.now → IfOk result (λ found. found ≡ first_broken catalogue statements.now) }
-    ensures never { (catalogue : List NamedModel) → DeclaresAll catalogue whole.now statements.now → IfOk result (λ found. IfSome found (λ refused. refused.why ≢ OutOfMemory tt)) }
-{
-    let mut earlier = Earlier::new(alloc)?;
-    for (place, statement) in statements.iter().enumerate() {
-        let repeated = earlier.add(statement)?;
-        if let Some(why) = whole.first_rule(place, repeated, &statement.what) {
-            return Ok(Some(Refused {
-                line: statement.line,
-                why,
-            }));
-        }
-    }
-    Ok(None)
-}
-
 /// The first statement that breaks a rule.
 fn first_broken(
     alloc: Global,
     catalogue: &Catalogue,
     statements: &[Statement<'_>],
 ) -> Result<Option<Refused>, AllocError>
-    ensures found { IfOk result (λ found. found ≡ first_broken catalogue.now statements.now) }
-    ensures never { IfOk result (λ found. IfSome found (λ refused. refused.why ≢ OutOfMemory tt)) }
+    ensures { IfOk result (λ found. found ≡ first_broken catalogue.now statements.now) }
 {
     let models = NamedModels::of(alloc, catalogue, statements)?;
     let links = link_lines(alloc, statements)?;
     let gathered = Gathered::of(alloc, &models, statements, links.as_slice())?;
     let whole = Whole::of(gathered, sorted(links));
-    first_broken_in(alloc, &whole, statements)
+    first_between(alloc, &whole, statements, 0, statements.len())
 }
 
-/// The same as `first_broken`, where the links are sorted in as many threads as there are processors.
+/// The same as `first_broken`, where the rules are judged and the links sorted in threads.
 fn first_broken_in_threads<R: Threads + Sync>(
     rt: &R,
     alloc: Global,
     catalogue: &Catalogue,
     statements: &[Statement<'_>],
 ) -> Result<Option<Refused>, AllocError>
-    ensures found { IfOk result (λ found. found ≡ first_broken catalogue.now statements.now) }
-    ensures never { IfOk result (λ found. IfSome found (λ refused. refused.why ≢ OutOfMemory tt)) }
+    ensures { IfOk result (λ found. found ≡ first_broken catalogue.now statements.now) }
 {
     let models = NamedModels::of(alloc, catalogue, statements)?;
     let links = link_lines(alloc, statements)?;
     let gathered = Gathered::of(alloc, &models, statements, links.as_slice())?;
     let whole = Whole::of(gathered, sorted_in_threads(rt, links));
-    first_broken_in(alloc, &whole, statements)
+    first_in_threads(rt, alloc, &whole, statements)
 }
 
 /// The project, where the first statement that breaks a rule is known.
@@ -154,7 +128,6 @@ fn checked_by<'b, 'a>(
     broken: Result<Option<Refused>, AllocError>,
 ) -> Result<Checked<'b, 'a>, Refused>
     requires found { IfOk broken (λ found. found ≡ first_broken catalogue.now project.now.statements) }
-    requires never { IfOk broken (λ found. IfSome found (λ refused. refused.why ≢ OutOfMemory tt)) }
     ensures checked { IfOk result (λ c. c ≡ record { statements = project.now.statements; catalogue = catalogue.now }) }
     ensures sound { OnOk result (first_broken catalogue.now project.now.statements ≡ None) }
     ensures refused { IfErr result (λ e. e.why ≢ OutOfMemory tt → first_broken catalogue.now project.now.statements ≡ Some e) }
@@ -190,7 +163,7 @@ pub fn check<'b, 'a>(
     checked_by(alloc, project, catalogue, broken)
 }
 
-/// The same as `check`, where the links are sorted in as many threads as there are processors.
+/// The same as `check`, where the rules are judged and the links sorted in threads.
 pub fn check_in_threads<'b, 'a, R: Threads + Sync>(
     rt: &R,
     alloc: Global,

@@ -14,6 +14,7 @@ mod laws;
 mod links;
 mod models;
 mod named_models;
+mod parts;
 mod rules;
 
 pub use by_address::ByAddress;
