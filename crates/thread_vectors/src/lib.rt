@@ -5,8 +5,16 @@
 #[cfg(test)]
 mod cells;
 #[cfg(test)]
+mod gate;
+#[cfg(test)]
+mod line;
+#[cfg(test)]
+mod program;
+#[cfg(test)]
 mod relays;
 #[cfg(test)]
 mod routers;
 #[cfg(test)]
 mod runs;
+#[cfg(test)]
+mod works;
