@@ -1,5 +1,5 @@
-//! The turn cell, the telegram router and the hub between threads, as tests: what their contracts can't say is that the calls get on. They stand in one crate, so that
-//! no library is proved twice.
+//! The turn cell, the telegram router, the hub and the program between threads, as tests: what their contracts can't say is that the calls get on. They stand in one
+//! crate, so that no library is proved twice.
 #![tactic(auto)]
 
 #[cfg(test)]
