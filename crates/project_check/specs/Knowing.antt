@@ -22,7 +22,6 @@ use Rattle.project_check.specs.declared.known.KnownObject.{KnownObject}
 use Rattle.project_check.specs.declared.models.Range.{Range}
 use Rattle.project_check.specs.declared.earlier.Repeated.{Repeated}
 use Rattle.project_check.specs.declared.known.KnownParameter.{KnownParameter}
-use Rattle.project_check.specs.declared.links.Link.{Link}
 use Rattle.project_check.specs.declared.models.ModelIndex.{ModelIndex}
 use Rattle.project_check.specs.declared.named_models.NamedModels.{NamedModels}
 use Rattle.project_check.specs.declared.rules.Gathered.{Gathered}
@@ -103,10 +102,6 @@ known_parameter catalogue ss d name = record { modelled = is_some (model_of cata
 -- what is known of a device's object
 abbrev pub known_at : List NamedModel → List Statement → ℕ × ℕ → KnownObject
 known_at catalogue ss o = known_object catalogue ss o.0 o.1
-
--- what is known of the group object of a link to the group
-abbrev pub linked_object : List NamedModel → List Statement → ℕ → Link → Option KnownObject
-linked_object catalogue ss g link = if link.group == g then Some (known_object catalogue ss link.device link.object) else None
 
 -- this is known of the group objects of the groups' first `link` lines
 abbrev pub FirstObjects : List NamedModel → List Statement → List (Option KnownObject) → Type 0

@@ -9,7 +9,8 @@ ghost use Rattle.project_check.specs.Devices.{raw_of};
 
 use crate::counted::totals_of;
 use crate::devices::{ascending_devices, first_device};
-use crate::links::{link_lines, sorted, sorted_in_threads};
+use crate::gathering::gathered_in_threads;
+use crate::links::sorted_links;
 use crate::named_models::NamedModels;
 use crate::parts::{first_between, first_in_threads};
 use crate::rules::{Gathered, Whole};
@@ -98,13 +99,13 @@ fn first_broken(
     ensures { IfOk result (λ found. found ≡ first_broken catalogue.now statements.now) }
 {
     let models = NamedModels::of(alloc, catalogue, statements)?;
-    let links = link_lines(alloc, statements)?;
-    let gathered = Gathered::of(alloc, &models, statements, links.as_slice())?;
-    let whole = Whole::of(gathered, sorted(links));
+    let gathered = Gathered::of(alloc, &models, statements)?;
+    let links = sorted_links(alloc, statements)?;
+    let whole = Whole::of(gathered, links);
     first_between(alloc, &whole, statements, 0, statements.len())
 }
 
-/// The same as `first_broken`, where the rules are judged and the links sorted in threads.
+/// The same as `first_broken`, in threads.
 fn first_broken_in_threads<R: Threads + Sync>(
     rt: &R,
     alloc: Global,
@@ -114,9 +115,10 @@ fn first_broken_in_threads<R: Threads + Sync>(
     ensures { IfOk result (λ found. found ≡ first_broken catalogue.now statements.now) }
 {
     let models = NamedModels::of(alloc, catalogue, statements)?;
-    let links = link_lines(alloc, statements)?;
-    let gathered = Gathered::of(alloc, &models, statements, links.as_slice())?;
-    let whole = Whole::of(gathered, sorted_in_threads(rt, links));
+    let (gathered, links) = gathered_in_threads(rt, alloc, &models, statements);
+    let gathered = gathered?;
+    let links = links?;
+    let whole = Whole::of(gathered, links);
     first_in_threads(rt, alloc, &whole, statements)
 }
 

@@ -1,25 +1,23 @@
 //! What the statements of a text declare, with the models that its devices name.
 
-ghost use Rattle.std.specs.Prelude.{◌≡◌, ◌||◌, ◌++◌, ℕ, Bool, List, [], ◌∷◌, Option, Some, None, true, slice_get, IfOk, OnOk, IfSome, IfNone};
+ghost use Rattle.std.specs.Prelude.{◌≡◌, ◌==◌, ◌||◌, ◌++◌, ℕ, Bool, List, [], ◌∷◌, Option, Some, None, true, slice_get, if◌then◌else◌, IfOk, OnOk, IfSome, IfNone};
 ghost use Rattle.std.specs.Borrow.{Bor};
-ghost use Rattle.std.specs.Option.{option_or};
+ghost use Rattle.std.specs.Option.{option_map, option_or};
 ghost use Rattle.std.specs.HashMap.{get};
 ghost use Rattle.knx_model.specs.declared.catalogue.model.Model.{Model};
 ghost use Rattle.knx_model.specs.declared.catalogue.model.NamedModel.{NamedModel};
 ghost use Rattle.knx_model.specs.declared.project.Statement.{Statement as Stated};
-ghost use Rattle.knx_model.specs.Rules.{some_line, first_some, declares_group, declares_device, size_in, model_in, model_of, or_else};
+ghost use Rattle.knx_model.specs.Rules.{some_line, first_some, linked_in, has_group, declares_group, declares_device, size_in, model_in, model_of, or_else};
 ghost use Rattle.project_check.specs.Keys.{object_eq, names_model};
-ghost use Rattle.project_check.specs.Knowing.{Holds, AreNamed, IsNamed, KeepsModels, Declares, Indexes, FirstObjects, known_object, linked_object, known_parameter};
-ghost use Rattle.project_check.specs.Links.{link_lines};
+ghost use Rattle.project_check.specs.Knowing.{Holds, AreNamed, IsNamed, KeepsModels, Declares, Indexes, FirstObjects, known_at, known_object, known_parameter};
 ghost use Rattle.project_check.specs.declared.known.KnownObject.{KnownObject as Known};
 
 use crate::by_address::ByAddress;
 use crate::group_object::GroupObject;
 use crate::known::{KnownObject, KnownParameter};
-use crate::links::{Link, LinkLine};
 use crate::models::ModelIndex;
 use crate::named_models::NamedModels;
-use knx_model::{Statement, What};
+use knx_model::{GroupAddr, Statement, What};
 use std::alloc::{AllocError, Global};
 use std::collections::HashMap;
 
@@ -191,20 +189,53 @@ impl<'b, 'a> Declared<'b, 'a> {
     }
 }
 
-/// Adds what is known of the group object of a link, where it is the group's first.
+/// Adds what is known of a group object to a group that has none.
+fn add_to_group(
+    first_objects: &mut ByAddress<Option<KnownObject>>,
+    declared: &Declared<'_, '_>,
+    object: GroupObject,
+    group: u16,
+)
+    ensures { (catalogue : List NamedModel) (ss : List Stated) → Declares catalogue declared.now ss → (f : ℕ → Option Known) → Holds first_objects.old f → Holds first_objects.new (λ g. option_or (f g) (if group == g then Some (known_object catalogue ss object.device object.number) else None)) }
+{
+    if first_objects.get(group).is_none() {
+        first_objects.set(group, Some(declared.known_object(object)));
+    }
+}
+
+/// Adds it to those of these groups that have none.
+fn add_to_groups(
+    first_objects: &mut ByAddress<Option<KnownObject>>,
+    declared: &Declared<'_, '_>,
+    object: GroupObject,
+    groups: &[GroupAddr],
+)
+    ensures { (catalogue : List NamedModel) (ss : List Stated) → Declares catalogue declared.now ss → (f : ℕ → Option Known) → Holds first_objects.old f → Holds first_objects.new (λ g. option_or (f g) (if has_group g groups.now then Some (known_object catalogue ss object.device object.number) else None)) }
+{
+    for group in groups {
+        add_to_group(first_objects, declared, object, group.raw);
+    }
+}
+
+/// Adds what is known of the group object of a `link` line to those of its groups that have none.
 fn add_first_object(
     first_objects: &mut ByAddress<Option<KnownObject>>,
     declared: &Declared<'_, '_>,
-    link: Link,
+    what: &What<'_>,
 )
-    ensures { (catalogue : List NamedModel) (ss : List Stated) → Declares catalogue declared.now ss → (f : ℕ → Option Known) → Holds first_objects.old f → Holds first_objects.new (λ g. option_or (f g) (linked_object catalogue ss g link)) }
+    ensures { (catalogue : List NamedModel) (ss : List Stated) → Declares catalogue declared.now ss → (f : ℕ → Option Known) → Holds first_objects.old f → Holds first_objects.new (λ g. option_or (f g) (option_map (known_at catalogue ss) (linked_in g what.now))) }
 {
-    if first_objects.get(link.group).is_none() {
+    if let What::Link {
+        device,
+        object,
+        groups,
+    } = what
+    {
         let object = GroupObject {
-            device: link.device,
-            number: link.object,
+            device: device.raw,
+            number: *object,
         };
-        first_objects.set(link.group, Some(declared.known_object(object)));
+        add_to_groups(first_objects, declared, object, groups.as_slice());
     }
 }
 
@@ -212,13 +243,13 @@ fn add_first_object(
 pub fn first_objects(
     alloc: Global,
     declared: &Declared<'_, '_>,
-    links: &[LinkLine],
+    statements: &[Statement<'_>],
 ) -> Result<ByAddress<Option<KnownObject>>, AllocError>
-    ensures { IfOk result (λ objects. (catalogue : List NamedModel) (ss : List Stated) → Declares catalogue declared.now ss → links.now ≡ link_lines ss → FirstObjects catalogue ss objects) }
+    ensures { IfOk result (λ objects. (catalogue : List NamedModel) → Declares catalogue declared.now statements.now → FirstObjects catalogue statements.now objects) }
 {
     let mut objects = ByAddress::new(alloc, None)?;
-    for line in links {
-        add_first_object(&mut objects, declared, line.link);
+    for statement in statements {
+        add_first_object(&mut objects, declared, &statement.what);
     }
     Ok(objects)
 }

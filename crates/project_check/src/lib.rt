@@ -8,6 +8,7 @@ mod counted;
 mod declared;
 mod devices;
 mod earlier;
+mod gathering;
 mod group_object;
 mod known;
 mod laws;

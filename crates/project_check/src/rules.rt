@@ -8,7 +8,7 @@ ghost use Rattle.knx_model.specs.declared.project.What.TheVariants.{Device as De
 ghost use Rattle.knx_model.specs.Rules.{rule_of, some_line, has_group, repeats_group, is_undeclared, duplicate_object, links_again, size_of_first, first_linked, differ, differs_from_first};
 ghost use Rattle.project_check.specs.Keys.{names_model};
 ghost use Rattle.project_check.specs.Knowing.{AreNamed, DeclaresAll, Gathers, repeats, IsNamed};
-ghost use Rattle.project_check.specs.Links.{AreSorted, is_at, link_lines};
+ghost use Rattle.project_check.specs.Links.{AreSorted, is_at};
 
 use crate::broken::first_broken_rule;
 use crate::by_address::ByAddress;
@@ -41,17 +41,16 @@ pub struct Gathered<'b, 'a> {
 }
 
 impl<'b, 'a> Gathered<'b, 'a> {
-    /// What is known of these statements, of which these are the links in the order of the text.
+    /// What is known of these statements.
     pub fn of(
         alloc: Global,
         models: &'b NamedModels<'a>,
         statements: &'a [Statement<'a>],
-        links: &[LinkLine],
     ) -> Result<Gathered<'b, 'a>, AllocError>
-        ensures { IfOk result (λ gathered. (catalogue : List NamedModel) → AreNamed catalogue models.now statements.now → links.now ≡ link_lines statements.now → Gathers catalogue gathered statements.now) }
+        ensures { IfOk result (λ gathered. (catalogue : List NamedModel) → AreNamed catalogue models.now statements.now → Gathers catalogue gathered statements.now) }
     {
         let declared = Declared::by_all(alloc, models, statements)?;
-        let first_objects = first_objects(alloc, &declared, links)?;
+        let first_objects = first_objects(alloc, &declared, statements)?;
         Ok(Gathered {
             models,
             declared,

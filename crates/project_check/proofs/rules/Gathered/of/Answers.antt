@@ -1,12 +1,10 @@
-use Rattle.std.proofs.Common.{◌∙◌}
 use Rattle.project_check.proofs.rules.Gathered.of.Goals as goal
 
 pub returns : goal.returns
-returns c = λ catalogue named lines.
-    let ss = c.args.statements.now in
+returns c = λ catalogue named.
     let declared = c.in_ok-declared.ensures catalogue named in
     record {
       models = named;
       declared = declared;
-      first_objects = c.in_ok-first_objects.ensures catalogue ss declared lines;
+      first_objects = c.in_ok-first_objects.ensures catalogue declared;
     }
