@@ -1,14 +1,15 @@
 -- The record of the port below, as it is shown: with one item more.
-use Rattle.std.proofs.Common.{◌≡◌, inl, inr, ℕ, Bool, true, false, List, [], ◌∷◌, refl, sym, ap, ◌∙◌, subst, Option, Some, None}
-use Rattle.std.specs.Prelude.{is_some, if◌then◌else◌, ◌&&◌, ◌==◌}
+use Rattle.std.proofs.Common.{◌≡◌, inl, inr, ℕ, Bool, true, false, List, [], ◌∷◌, refl, sym, ap, ◌∙◌, subst, Option, Some, None, Result, Ok, Err}
+use Rattle.std.specs.Prelude.{IsErr, is_some, if◌then◌else◌, ◌&&◌, ◌==◌}
 use Rattle.std.specs.Str.{bytes_eq}
 use Rattle.std.proofs.lemmas.Bool.{eq-eqb, and_from}
 use Rattle.std.proofs.lemmas.Slice.Eq.{bytes_eq-Decides}
 use Rattle.line_model.specs.declared.outside.port.PortFault.{PortFault}
-use Rattle.line_model.specs.PortStory.{PortItem, Took, Quiet, Gave, PortStory, Untold, Recorded, Adds, GivesOrNot}
+use Rattle.line_model.specs.declared.outside.port.PortPolled.{PortPolled}
+use Rattle.line_model.specs.PortStory.{PortItem, Took, Quiet, Gave, PortStory, Untold, Recorded, Adds, GivesOrNot, TakesSo}
 use Rattle.discovery.specs.declared.about.About.{About}
 use Rattle.discovery.specs.declared.inquiry.Inquiry.{Inquiry}
-use Rattle.discovery_ends.specs.Answering.{HasNoRequest, request_in, answer_of, is_answer_to, is_answer, shown, without_last, shown_story}
+use Rattle.discovery_ends.specs.Answering.{AllAnswered, HasNoRequest, request_in, answer_of, is_answer_to, is_answer, shown, without_last, shown_story}
 
 -- ---- no request is open: the newest item of the record is none
 
@@ -60,10 +61,14 @@ answers_it about o inquiry e =
     let same : bytes_eq (answer_of about inquiry) (answer_of about inquiry) ≡ true = (bytes_eq-Decides (answer_of about inquiry) (answer_of about inquiry)).1 refl in
     subst (λ (p : Option Inquiry). is_answer_to about p (answer_of about inquiry) ≡ true) (sym e) same
 
+is_answered : (about : About) (from : ℕ) (request : List ℕ) (inquiry : Inquiry) (older : List PortItem) → request_in request ≡ Some inquiry
+    → is_answer about (Gave from (answer_of about inquiry)) (Took from request ∷ older) ≡ true
+is_answered about from request inquiry older e = and_from _ _ (eq-eqb from from refl) (answers_it about (request_in request) inquiry e)
+
 shown_answered : (about : About) (from : ℕ) (request : List ℕ) (inquiry : Inquiry) (older : List PortItem) → request_in request ≡ Some inquiry
     → shown about (Gave from (answer_of about inquiry) ∷ Took from request ∷ older) ≡ Took from [] ∷ shown about older
 shown_answered about from request inquiry older e =
-    if_true (is_answer about (Gave from (answer_of about inquiry)) (Took from request ∷ older)) _ _ (and_from _ _ (eq-eqb from from refl) (answers_it about (request_in request) inquiry e))
+    if_true (is_answer about (Gave from (answer_of about inquiry)) (Took from request ∷ older)) _ _ (is_answered about from request inquiry older e)
 
 -- ---- the stories
 
@@ -107,14 +112,35 @@ module _ (about : About) (from : ℕ) (request : List ℕ) (inquiry : Inquiry) (
         ap (shown about) (k.2 ∙ ap (λ (l : List PortItem). Gave from (answer_of about inquiry) ∷ l) g.2) ∙ shown_answered about from request inquiry g.0 is,
       )
 
+  without_request : (older : List PortItem) → without_last about (Took from request ∷ older) ≡ older
+  without_request older = if_true (is_some (request_in request)) older (Took from request ∷ older) (ap is_some is)
+
+  without_answered : (older : List PortItem) → without_last about (Gave from (answer_of about inquiry) ∷ Took from request ∷ older) ≡ older
+  without_answered older =
+      if_true (is_answer about (Gave from (answer_of about inquiry)) (Took from request ∷ older)) older (Gave from (answer_of about inquiry) ∷ Took from request ∷ older) (is_answered about from request inquiry older is)
+
   not_given : (fault : PortFault) (before after : PortStory) → Adds (Took from request) before after → shown_story about (Some fault) after ≡ shown_story about None before
   not_given fault before Untold h = sym (ap (shown_story about None) h)
-  not_given fault before (Recorded items) h = ap (λ (l : List PortItem). Recorded (shown about (without_last l))) h.2 ∙ sym (ap (shown_story about None) h.1)
+  not_given fault before (Recorded items) h =
+      ap (λ (l : List PortItem). Recorded (shown about l)) (ap (without_last about) h.2 ∙ without_request h.0) ∙ sym (ap (shown_story about None) h.1)
 
   pub failed_shown : (fault : PortFault) (before between after : PortStory) → Adds (Took from request) before between → GivesOrNot from (answer_of about inquiry) between after
       → shown_story about (Some fault) after ≡ shown_story about None before
   failed_shown fault before between Untold h (inl k) = not_given fault before Untold (subst (Adds (Took from request) before) k h)
   failed_shown fault before between (Recorded items) h (inl k) =
       let g : Adds (Took from request) before (Recorded k.0) = subst (Adds (Took from request) before) k.1 h in
-      ap (λ (l : List PortItem). Recorded (shown about (without_last l))) (k.2 ∙ ap (λ (l : List PortItem). Gave from (answer_of about inquiry) ∷ l) g.2) ∙ sym (ap (shown_story about None) g.1)
+      let all : items ≡ Gave from (answer_of about inquiry) ∷ Took from request ∷ g.0 = k.2 ∙ ap (λ (l : List PortItem). Gave from (answer_of about inquiry) ∷ l) g.2 in
+      ap (λ (l : List PortItem). Recorded (shown about l)) (ap (without_last about) all ∙ without_answered g.0) ∙ sym (ap (shown_story about None) g.1)
   failed_shown fault before between after h (inr k) = not_given fault before after (subst (Adds (Took from request) before) (sym k) h)
+
+  module _ (fault : PortFault) (failed : Option PortFault) (kept : failed ≡ Some fault) (before between after : PortStory) (took : Adds (Took from request) before between) (given : GivesOrNot from (answer_of about inquiry) between after) where
+    not_shown : shown_story about failed after ≡ shown_story about None before
+    not_shown = ap (λ (o : Option PortFault). shown_story about o after) kept ∙ failed_shown fault before between after took given
+
+    -- so nothing was taken, by what is shown
+    pub failed_taken : (result : Result PortPolled PortFault) (into : List ℕ) (wait : ℕ) → IsErr result → TakesSo result into wait (shown_story about None before) (shown_story about failed after)
+    failed_taken (Ok polled) into wait e = absurd cc
+    failed_taken (Err why) into wait e = not_shown
+
+    pub failed_answered : AllAnswered about None before → AllAnswered about failed after
+    failed_answered none = subst HasNoRequest (sym not_shown) none

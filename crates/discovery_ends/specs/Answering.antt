@@ -1,7 +1,7 @@
 -- A gateway's port at which requests of discovery are answered (ISO 22510, Core, search and self description). By the record of the port below it,
 -- each answered request stands as a datagram without octets, and its answer is left out. Once an answer has failed nothing more is done at
--- the port below; the last request, and its answer where that went out nevertheless, are left out then.
-use Rattle.std.specs.Prelude.{◌≡◌, ℕ, ◌+◌, ◌<◌, ◌≤◌, Bool, false, ◌&&◌, ◌==◌, min, List, [], ◌∷◌, ◌++◌, length, drop, Option, Some, None, if◌then◌else◌}
+-- the port below; where a request was taken last it is left out then, with its answer where that went out nevertheless.
+use Rattle.std.specs.Prelude.{◌≡◌, ℕ, ◌+◌, ◌<◌, ◌≤◌, Bool, false, ◌&&◌, ◌==◌, min, List, [], ◌∷◌, ◌++◌, length, drop, Option, Some, None, if◌then◌else◌, is_some}
 use Rattle.std.specs.List.{AllByRecursion}
 use Rattle.std.specs.Str.{bytes_eq}
 use Rattle.knx_model.specs.Octets.{word_at}
@@ -54,15 +54,17 @@ abbrev pub shown : About → List PortItem → List PortItem
 shown about [] = []
 shown about (item ∷ older) = if is_answer about item older then emptied (shown about older) else item ∷ shown about older
 
--- without the request that was taken last, and its answer where that went out
-abbrev pub without_last : List PortItem → List PortItem
-without_last (Gave to octets ∷ older) = drop 1 older
-without_last items = drop 1 items
+-- without a request that was taken last, and its answer where that went out
+abbrev pub without_last : About → List PortItem → List PortItem
+without_last about (Gave to octets ∷ Took from request ∷ older) =
+    if is_answer about (Gave to octets) (Took from request ∷ older) then older else Gave to octets ∷ Took from request ∷ older
+without_last about (Took from request ∷ older) = if is_some (request_in request) then older else Took from request ∷ older
+without_last about items = items
 
 -- where no answer failed; or where one did
 abbrev pub shown_where : About → Option PortFault → List PortItem → List PortItem
 shown_where about None items = shown about items
-shown_where about (Some kept) items = shown about (without_last items)
+shown_where about (Some kept) items = shown about (without_last about items)
 
 abbrev pub shown_story : About → Option PortFault → PortStory → PortStory
 shown_story about failed Untold = Untold

@@ -5,13 +5,12 @@ use Rattle.knx_model.specs.declared.no_memory.NoMemory.{NoMemory}
 use Rattle.knx_model.specs.Outside.{Rose, one_more}
 use Rattle.line_model.specs.declared.outside.link.LinkFault.{LinkFault}
 use Rattle.line_model.specs.Dialled.{Address, DialerNow, TakesBack, Tells}
-use Rattle.line_model.specs.LinkStory.{Story, IsNewLink}
 use Rattle.line_model.specs.Polled.{FailsWhere}
 use Rattle.discovery.specs.declared.about.About.{About}
 use Rattle.discovery.specs.declared.inquiry.Inquiry.{Inquiry}
 use Rattle.discovery_ends.specs.declared.looking.Looked.{Looked}
 use Rattle.discovery_ends.specs.declared.looking.Looked.TheVariants as looked
-use Rattle.discovery_ends.specs.Searching.{Searches}
+use Rattle.discovery_ends.specs.Searching.{SearchesNew}
 
 -- one call of `dial`, with just this host and port number, failed: nothing was opened, and so nothing was handed back
 pub record NotReached (at : Address) (before after : DialerNow) : Type 0 where
@@ -25,10 +24,8 @@ pub record NotReached (at : Address) (before after : DialerNow) : Type 0 where
 pub record LookedOver (at : Address) (inquiry : Inquiry) (before after : DialerNow) (found : List About) (ended : Result (Unit {0}) LinkFault) : Type 0 where
   pub given : Tells at.host at.port after.given
   pub once : after.dials ≡ one_more before.dials
-  -- the link was new, and then searched over
-  pub began : Story
-  pub new : IsNewLink began
-  pub searches : Searches inquiry began after.link_back found ended
+  -- the link that was handed back was new but for the search
+  pub searches : SearchesNew inquiry after.link_back found ended
   -- the dialer's count once it had dialled, and the link's, of which a fault is told only where it rose
   pub since : ℕ
   pub count : before.faults ≤ since

@@ -1,9 +1,9 @@
 -- Looking for gateways over a link (ISO 22510, Core, search and self description), by the link's record: the request is sent once, or once more where
--- nothing was found until it was quiet; datagrams are taken until it is quiet, 64 gateways are found or 65,536 datagrams are taken. It is quiet where for
--- 3,000 ms in turn nothing came, by an exact clock. The newest entry first.
+-- nothing was found until it was quiet; datagrams are taken until it is quiet, 64 gateways are found or 65,536 datagrams are taken. By an exact clock it is
+-- quiet where for 3,000 ms in turn nothing came; by one that runs, where a poll brought nothing, however long it lasted. The newest entry first.
 use Rattle.std.specs.Prelude.{◌≡◌, ℕ, ◌+◌, ◌<◌, ◌≤◌, ◌⊎◌, Bool, true, false, List, [], ◌∷◌, ◌++◌, length, Option, Some, None, Result, Ok, if◌then◌else◌}
 use Rattle.line_model.specs.declared.outside.link.LinkFault.{LinkFault}
-use Rattle.line_model.specs.LinkStory.{Story, Untold, Recorded, Full, Exact, Running, newest_time}
+use Rattle.line_model.specs.LinkStory.{Clock, Story, Untold, Recorded, Full, Exact, Running, newest_time}
 use Rattle.line_model.specs.Record.{Item, Put, Renewed, Got, Quiet, Entry, is_poll, record_of}
 use Rattle.discovery.specs.declared.about.About.{About}
 use Rattle.discovery.specs.declared.inquiry.Inquiry.{Inquiry}
@@ -41,30 +41,41 @@ abbrev pub before_quiet : List Entry → List Entry
 before_quiet [] = []
 before_quiet (x ∷ older) = if is_quiet x.what then before_quiet older else x ∷ older
 
--- so long nothing was sent or got
-abbrev pub IsQuietFor : ℕ → List Entry → Type 0
-IsQuietFor ms r = newest_time r ≡ newest_time (before_quiet r) + ms
+-- the last poll brought nothing
+abbrev pub EndsQuiet : List Entry → Type 0
+EndsQuiet [] = ⊥
+EndsQuiet (x ∷ older) = x.what ≡ Quiet
 
--- ---- one sending of the request, and the polls behind it, in each of which it was quiet for 3,000 ms at most
+-- so long nothing was sent or got, by an exact clock
+abbrev pub IsQuietFor : Clock → ℕ → List Entry → Type 0
+IsQuietFor Exact ms r = newest_time r ≡ newest_time (before_quiet r) + ms
+IsQuietFor Running ms r = EndsQuiet r
 
-abbrev pub Listens : List Entry → List Entry → Type 0
-Listens before [] = Unit {0}
-Listens before (x ∷ polls) = (is_poll x.what ≡ true) × (x.now ≤ newest_time (before_quiet (polls ++ before)) + quiet_ms) × Listens before polls
+-- ---- one sending of the request, and the polls behind it. By an exact clock it was quiet for 3,000 ms at most in each; by one that runs each comes just behind
+-- what was sent or got
 
-pub record Round (inquiry : Inquiry) (before after : List Entry) (got : List (List ℕ)) : Type 0 where
+abbrev pub IsInTime : Clock → ℕ → List Entry → Type 0
+IsInTime Exact now r = now ≤ newest_time (before_quiet r) + quiet_ms
+IsInTime Running now r = before_quiet r ≡ r
+
+abbrev pub Listens : Clock → List Entry → List Entry → Type 0
+Listens clock before [] = Unit {0}
+Listens clock before (x ∷ polls) = (is_poll x.what ≡ true) × IsInTime clock x.now (polls ++ before) × Listens clock before polls
+
+pub record Round (clock : Clock) (inquiry : Inquiry) (before after : List Entry) (got : List (List ℕ)) : Type 0 where
   pub request : Entry
   pub put : request.what ≡ Put (Written (request_of inquiry))
   pub polls : List Entry
-  pub listens : Listens (request ∷ before) polls
+  pub listens : Listens clock (request ∷ before) polls
   pub all : after ≡ polls ++ request ∷ before
   pub got_in_it : got ≡ datagrams_in polls
 
 -- how many times the request was sent, and the datagrams that were got. It is sent once more only where the first quiet has found none
-pub data Rounds (inquiry : Inquiry) (before : List Entry) : ℕ → List Entry → List (List ℕ) → Type 0 where
-  Unsent : Rounds inquiry before 0 before []
-  Once : {after : List Entry} {got : List (List ℕ)} → Round inquiry before after got → Rounds inquiry before 1 after got
-  Twice : {between after : List Entry} {first second : List (List ℕ)} → Round inquiry before between first → IsQuietFor quiet_ms between → Finds inquiry first []
-      → Round inquiry between after second → Rounds inquiry before 2 after (first ++ second)
+pub data Rounds (clock : Clock) (inquiry : Inquiry) (before : List Entry) : ℕ → List Entry → List (List ℕ) → Type 0 where
+  Unsent : Rounds clock inquiry before 0 before []
+  Once : {after : List Entry} {got : List (List ℕ)} → Round clock inquiry before after got → Rounds clock inquiry before 1 after got
+  Twice : {between after : List Entry} {first second : List (List ℕ)} → Round clock inquiry before between first → IsQuietFor clock quiet_ms between → Finds inquiry first []
+      → Round clock inquiry between after second → Rounds clock inquiry before 2 after (first ++ second)
 
 -- ---- what is found, where nothing is taken any more once 64 were found
 
@@ -75,24 +86,27 @@ pub record Takes (inquiry : Inquiry) (got : List (List ℕ)) (found : List About
 
 -- ---- how it ends: where none was found, the request was sent twice, unless all datagrams were taken
 
-abbrev pub Ends : ℕ → List Entry → List (List ℕ) → List About → Type 0
-Ends sent r got found = (length found ≡ most_found) ⊎ (length got ≡ most_datagrams) ⊎ (IsQuietFor quiet_ms r × (found ≡ [] → sent ≡ 2))
+abbrev pub Ends : Clock → ℕ → List Entry → List (List ℕ) → List About → Type 0
+Ends clock sent r got found = (length found ≡ most_found) ⊎ (length got ≡ most_datagrams) ⊎ (IsQuietFor clock quiet_ms r × (found ≡ [] → sent ≡ 2))
 
-pub record Searched (inquiry : Inquiry) (before after : List Entry) (found : List About) (ended : Result (Unit {0}) LinkFault) : Type 0 where
+pub record Searched (clock : Clock) (inquiry : Inquiry) (before after : List Entry) (found : List About) (ended : Result (Unit {0}) LinkFault) : Type 0 where
   pub sent : ℕ
   pub got : List (List ℕ)
-  pub rounds : Rounds inquiry before sent after got
+  pub rounds : Rounds clock inquiry before sent after got
   pub takes : Takes inquiry got found
-  pub ends : ended ≡ Ok tt → Ends sent after got found
+  pub ends : ended ≡ Ok tt → Ends clock sent after got found
 
--- the record of a link, where it is told with an exact clock: of how long it is quiet by another one nothing is said
-abbrev pub exact_record_in : Story → Option (List Entry)
-exact_record_in Untold = None
-exact_record_in (Recorded Exact r) = Some r
-exact_record_in (Recorded Running r) = None
-exact_record_in (Full start events) = Some (record_of start events)
+-- a link's story by its record alone, whether or not it tells its events
+abbrev pub recorded : Story → Story
+recorded Untold = Untold
+recorded (Recorded clock r) = Recorded clock r
+recorded (Full start events) = Recorded Exact (record_of start events)
 
 -- by its stories before and after it
 abbrev pub Searches : Inquiry → Story → Story → List About → Result (Unit {0}) LinkFault → Type 0
 Searches inquiry before after found ended =
-    (r : List Entry) → exact_record_in before ≡ Some r → (r' : List Entry) × (exact_record_in after ≡ Some r') × Searched inquiry r r' found ended
+    (clock : Clock) (r : List Entry) → recorded before ≡ Recorded clock r → (r' : List Entry) × (recorded after ≡ Recorded clock r') × Searched clock inquiry r r' found ended
+
+-- by the story after it, of a link that was new: all that its record has is of the search
+abbrev pub SearchesNew : Inquiry → Story → List About → Result (Unit {0}) LinkFault → Type 0
+SearchesNew inquiry after found ended = (clock : Clock) (r : List Entry) → recorded after ≡ Recorded clock r → Searched clock inquiry [] r found ended

@@ -2,6 +2,7 @@
 
 ghost use Rattle.std.specs.Prelude.{◌≡◌, ◌≤◌, ◌<◌, ◌+◌, ◌⊎◌, ℕ, List, IsTrue, false, length};
 ghost use Rattle.discovery.specs.Finding.{most_found};
+ghost use Rattle.line_model.specs.LinkStory.{Clock, Untold};
 ghost use Rattle.line_model.specs.Polled.{FailsWhere};
 ghost use Rattle.line_model.specs.Record.{Entry};
 ghost use Rattle.discovery_ends.specs.Going.{Awake, ListenedSo, PolledSo};
@@ -26,7 +27,8 @@ pub enum Listened {
 
 /// Takes datagrams until it is quiet, all gateways were found that are kept, or so many datagrams were taken.
 pub fn listen<L: Link>(link: &mut L, finder: &mut Finder, most: u32) -> Result<Listened, LinkFault>
-    ensures so { (r : List Entry) (got : List (List ℕ)) → Awake (L.story link.old) r → Takes finder.old.inquiry got finder.old.found → length got + most ≡ most_datagrams → ListenedSo result finder.old.inquiry r got (L.story link.new) finder.new.found }
+    ensures so { (clock : Clock) (r : List Entry) (got : List (List ℕ)) → Awake clock (L.story link.old) r → Takes finder.old.inquiry got finder.old.found → length got + most ≡ most_datagrams → ListenedSo clock result finder.old.inquiry r got (L.story link.new) finder.new.found }
+    ensures untold { L.story link.old ≡ Untold → L.story link.new ≡ Untold }
     ensures inquiry { finder.new.inquiry ≡ finder.old.inquiry }
     ensures cause { FailsWhere result (L.faults link.old) (L.faults link.new) }
     ensures count { L.faults link.old ≤ L.faults link.new }
@@ -62,7 +64,8 @@ enum Heard {
 
 /// Waits for a datagram, which the finder takes.
 fn poll<L: Link>(link: &mut L, finder: &mut Finder) -> Result<Heard, LinkFault>
-    ensures so { (r : List Entry) → Awake (L.story link.old) r → PolledSo result finder.old.inquiry r (L.story link.new) finder.old.found finder.new.found }
+    ensures so { (clock : Clock) (r : List Entry) → Awake clock (L.story link.old) r → PolledSo clock result finder.old.inquiry r (L.story link.new) finder.old.found finder.new.found }
+    ensures untold { L.story link.old ≡ Untold → L.story link.new ≡ Untold }
     ensures inquiry { finder.new.inquiry ≡ finder.old.inquiry }
     ensures cause { FailsWhere result (L.faults link.old) (L.faults link.new) }
     ensures count { L.faults link.old ≤ L.faults link.new }

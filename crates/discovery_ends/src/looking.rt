@@ -5,7 +5,7 @@ ghost use Rattle.line_model.specs.Dialled.{TakesBack};
 ghost use Rattle.line_model.specs.LinkStory.{IsNewLink};
 ghost use Rattle.line_model.specs.Polled.{FailsWhere};
 ghost use Rattle.discovery_ends.specs.Looking.{Looks};
-ghost use Rattle.discovery_ends.specs.Searching.{Searches};
+ghost use Rattle.discovery_ends.specs.Searching.{SearchesNew};
 
 use crate::search::{Findings, run};
 use discovery::{Finder, Inquiry};
@@ -45,7 +45,7 @@ fn search_over<D: Dialer>(dial: &mut D, link: D::L, finder: Finder) -> Findings
     requires sound { D.L.faults link ≡ 0 }
     requires none { finder.found ≡ [] }
     ensures inquiry { result.finder.inquiry ≡ finder.inquiry }
-    ensures searches { Searches finder.inquiry (D.L.story link) (D.now dial.new).link_back result.finder.found result.ended }
+    ensures searches { SearchesNew finder.inquiry (D.now dial.new).link_back result.finder.found result.ended }
     ensures cause { (faults : ℕ) × TakesBack faults (D.now dial.old).faults (D.now dial.new).faults × FailsWhere result.ended 0 faults }
     ensures given { (D.now dial.new).given ≡ (D.now dial.old).given }
     ensures dials { (D.now dial.new).dials ≡ (D.now dial.old).dials }

@@ -3,10 +3,11 @@
 ghost use Rattle.std.specs.Prelude.{◌≡◌, ◌≤◌, ◌+◌, ◌↔◌, ℕ, IfOk, IsTrue, List, OnErr, Some, [], length};
 ghost use Rattle.discovery.specs.Discovery.{Written};
 ghost use Rattle.discovery.specs.Finding.{request_of};
+ghost use Rattle.line_model.specs.LinkStory.{Clock, Recorded, Untold};
 ghost use Rattle.line_model.specs.Polled.{FailsWhere};
 ghost use Rattle.line_model.specs.Record.{Entry};
 ghost use Rattle.discovery_ends.specs.Going.{AgainSo, RoundSo};
-ghost use Rattle.discovery_ends.specs.Searching.{Searches, Takes, exact_record_in, most_datagrams};
+ghost use Rattle.discovery_ends.specs.Searching.{Searches, Takes, most_datagrams, recorded};
 
 use crate::listening::{Listened, listen};
 use discovery::{Datagram, FindFrame, Finder, Inquiry, encode};
@@ -29,6 +30,7 @@ pub struct Findings {
 /// datagrams were taken. Where the first quiet found none, it sends once more. At `Err` nothing was sent.
 pub fn find<L: Link>(alloc: Global, link: &mut L, inquiry: Inquiry) -> Result<Findings, NoMemory>
     ensures searches { IfOk result (λ s. (s.finder.inquiry ≡ inquiry) × Searches inquiry (L.story link.old) (L.story link.new) s.finder.found s.ended) }
+    ensures untold { L.story link.old ≡ Untold → L.story link.new ≡ Untold }
     ensures cause { IfOk result (λ s. FailsWhere s.ended (L.faults link.old) (L.faults link.new)) }
     ensures unsent { OnErr result (link.new ≡ link.old) }
     ensures count { L.faults link.old ≤ L.faults link.new }
@@ -44,6 +46,7 @@ pub fn find<L: Link>(alloc: Global, link: &mut L, inquiry: Inquiry) -> Result<Fi
 /// Sends and listens once, or twice.
 pub(crate) fn run<L: Link>(link: &mut L, finder: &mut Finder) -> Result<(), LinkFault>
     ensures so { finder.old.found ≡ [] → Searches finder.old.inquiry (L.story link.old) (L.story link.new) finder.new.found result }
+    ensures untold { L.story link.old ≡ Untold → L.story link.new ≡ Untold }
     ensures inquiry { finder.new.inquiry ≡ finder.old.inquiry }
     ensures cause { FailsWhere result (L.faults link.old) (L.faults link.new) }
     ensures count { L.faults link.old ≤ L.faults link.new }
@@ -61,6 +64,7 @@ pub(crate) fn run<L: Link>(link: &mut L, finder: &mut Finder) -> Result<(), Link
 /// Where a first round has found none until it was quiet, there is a second.
 fn again<L: Link>(link: &mut L, finder: &mut Finder, left: u32) -> Result<(), LinkFault>
     ensures so { AgainSo result finder.old.inquiry left (L.story link.old) (L.story link.new) finder.old.found finder.new.found }
+    ensures untold { L.story link.old ≡ Untold → L.story link.new ≡ Untold }
     ensures inquiry { finder.new.inquiry ≡ finder.old.inquiry }
     ensures cause { FailsWhere result (L.faults link.old) (L.faults link.new) }
     ensures count { L.faults link.old ≤ L.faults link.new }
@@ -79,7 +83,8 @@ fn again<L: Link>(link: &mut L, finder: &mut Finder, left: u32) -> Result<(), Li
 
 /// Sends the request, and listens.
 fn round<L: Link>(link: &mut L, finder: &mut Finder, most: u32) -> Result<Listened, LinkFault>
-    ensures so { (r : List Entry) (got : List (List ℕ)) → exact_record_in (L.story link.old) ≡ Some r → Takes finder.old.inquiry got finder.old.found → length got + most ≡ most_datagrams → RoundSo result finder.old.inquiry r got (L.story link.new) finder.old.found finder.new.found }
+    ensures so { (clock : Clock) (r : List Entry) (got : List (List ℕ)) → recorded (L.story link.old) ≡ Recorded clock r → Takes finder.old.inquiry got finder.old.found → length got + most ≡ most_datagrams → RoundSo clock result finder.old.inquiry r got (L.story link.new) finder.old.found finder.new.found }
+    ensures untold { L.story link.old ≡ Untold → L.story link.new ≡ Untold }
     ensures inquiry { finder.new.inquiry ≡ finder.old.inquiry }
     ensures cause { FailsWhere result (L.faults link.old) (L.faults link.new) }
     ensures count { L.faults link.old ≤ L.faults link.new }

@@ -51,9 +51,19 @@ module _ (a b : About) (same : (inquiry : Inquiry) → answer_of a inquiry ≡ a
       ap (λ (is : Bool). if is then emptied (shown a older) else item ∷ shown a older) (answers_so item older)
       ∙ ap (λ (rest : List PortItem). if is_answer b item older then emptied rest else item ∷ rest) (shown_alike older)
 
+  left_alike : (items : List PortItem) → without_last a items ≡ without_last b items
+  left_alike [] = refl
+  left_alike (Took from request ∷ older) = refl
+  left_alike (Quiet ms ∷ older) = refl
+  left_alike (Gave to octets ∷ []) = refl
+  left_alike (Gave to octets ∷ Took from request ∷ older) =
+      ap (λ (is : Bool). if is then older else Gave to octets ∷ Took from request ∷ older) (answers_so (Gave to octets) (Took from request ∷ older))
+  left_alike (Gave to octets ∷ Quiet ms ∷ older) = refl
+  left_alike (Gave to octets ∷ Gave other more ∷ older) = refl
+
   where_alike : (failed : Option PortFault) (items : List PortItem) → shown_where a failed items ≡ shown_where b failed items
   where_alike None items = shown_alike items
-  where_alike (Some kept) items = shown_alike (without_last items)
+  where_alike (Some kept) items = shown_alike (without_last a items) ∙ ap (shown b) (left_alike items)
 
 with_body : ℕ → List ℕ → List ℕ
 with_body service body = 0x06 ∷ 0x10 ∷ (word service ++ word (6 + length body) ++ body)

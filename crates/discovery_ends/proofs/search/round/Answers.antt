@@ -12,7 +12,7 @@ returns-in-Ok-clause-so g c =
     let before = g.L.Link.story c.args.link.now in
     let between = g.L.Link.story c.send.new.self in
     let sends : Sends (Written (request_of c.args.finder.now.inquiry)) before between = subst (λ (o : List ℕ). Sends o before between) is c.in-Ok.ensures.sent in
-    λ r got told t n. round_so c.args.finder.now.inquiry r got c.args.finder.now.found c.listen.result before between (g.L.Link.story c.listen.new.link) c.listen.new.finder.found c.args.most told t n sends c.listen.ensures.so
+    λ clock r got told t n. round_so clock c.args.finder.now.inquiry r got c.args.finder.now.found c.listen.result before between (g.L.Link.story c.listen.new.link) c.listen.new.finder.found c.args.most told t n sends (c.listen.ensures.so clock)
 
 pub returns-in-Err-clause-so : goal.returns-in-Err-clause-so
 returns-in-Err-clause-so g c =
@@ -20,4 +20,4 @@ returns-in-Err-clause-so g c =
     let before = g.L.Link.story c.args.link.now in
     let after = g.L.Link.story c.send.new.self in
     let sends : SendsOrNot (Written (request_of c.args.finder.now.inquiry)) before after = subst (λ (o : List ℕ). SendsOrNot o before after) is c.in-Err.ensures.failed in
-    λ r got told t n. unsent_so c.args.finder.now.inquiry r got c.args.finder.now.found c.in-Err.fault before after told t sends
+    λ clock r got told t n. unsent_so clock c.args.finder.now.inquiry r got c.args.finder.now.found c.in-Err.fault before after told t sends
