@@ -72,7 +72,7 @@ few_go : (l ms : List Moment) → AtMostOne l → GoOn (rounds ms) (rounds (l ++
 few_go l ms (inl n) = subst (GoOn (rounds ms)) (sym (nothing_rounds l ms n)) (go_same (rounds ms))
 few_go l ms (inr o) = subst (GoOn (rounds ms)) (sym (one_rounds PutsNone l ms o)) (go_deed o.m.what (rounds ms) (not_puts o.m.what o.is))
 
-few_put : (l : List Moment) → AtMostOne l → Every PutsNo l
+pub few_put : (l : List Moment) → AtMostOne l → Every PutsNo l
 few_put l (inl n) = nothing_puts l n
 few_put l (inr o) = one_puts PutsNone l o (not_puts o.m.what o.is)
 
@@ -97,7 +97,7 @@ act_few : (result : Result Acted HubFault) (old added : List Placed) → Acts re
 act_few (Ok acted) old added h = inl h.0
 act_few (Err fault) old added h = inl h
 
-poll_few : (result : Result Came HubFault) (old added : List Placed) → PollAdds result old added → AtMostOne (moments_on old added)
+pub poll_few : (result : Result Came HubFault) (old added : List Placed) → PollAdds result old added → AtMostOne (moments_on old added)
 poll_few (Ok came) old added h = at_most_one came.what came.loss _ (moments_on old added) h.does
 poll_few (Err fault) old added h = h.at_most_one
 

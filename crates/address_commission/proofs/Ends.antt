@@ -10,7 +10,7 @@ use Rattle.line_model.specs.LinkStory.{Story, Untold, Recorded, Full, Exact, Run
 use Rattle.line_model.specs.Sendings.{SendsRightly}
 use Rattle.line_model.proofs.Entries.{entries_counted}
 use Rattle.tunnel_link.specs.declared.known.Known.{Known}
-use Rattle.tunnel_link.specs.Rights.{WhereTold, KeepsRecord}
+use Rattle.tunnel_link.specs.Rights.{KeepsRecord}
 use Rattle.address_world.specs.AddressWorld.{AddressWorld, AddressEvent, replay}
 use Rattle.address_world.specs.AddressLegal.{IsFresh, IsLegal}
 use Rattle.address_world.specs.AddressStory.{AddressStory, Told, Agrees, TellsTruly, record_of}
@@ -59,9 +59,6 @@ units_determined wanted result k story told ends keeps agrees three law start ev
     let all : entries (counted r) ≡ r = entries_counted r in
     let right = (keeps (counted r) (told_too story (counted r) places)).right in
     law wanted start events result three truly.fresh truly.legal calm (subst RenewsRightly all right.renews) (subst SendsRightly all right.sends) (subst AcknowledgesRightly all right.acknowledges) (ends (counted r) places)
-
-pub acknowledged : (k : Known) (story : Story) → KeepsRecord k story → WhereTold (λ places. AcknowledgesRightly (entries places)) story
-acknowledged k story keeps places e = (keeps places e).right.acknowledges
 
 -- ---- how it begins
 

@@ -1,7 +1,7 @@
 -- A link with an exact clock that tells its places: what a client's end of a tunnel keeps of it.
 use Rattle.std.proofs.Common.{◌≡◌, List, Some, None, refl}
 use Rattle.line_model.specs.Record.{Placed}
-use Rattle.line_model.specs.LinkStory.{Story, Untold, Recorded, Full, Clock, Exact, Running, clock_of, places_in}
+use Rattle.line_model.specs.LinkStory.{Story, Untold, Recorded, Full, Exact, Running, clock_of, places_in}
 use Rattle.tunnel_link.specs.Rights.{WhereTold}
 use Rattle.address_commission.specs.Exact.{exact_places_in, WhereExact}
 

@@ -2,3 +2,4 @@ pub mod Exact
 pub mod Going
 pub mod Listening
 pub mod Calls
+pub mod Always

@@ -4,14 +4,14 @@ ghost use Rattle.std.specs.Prelude.{◌≡◌, ◌≤◌, IfErr, IfOk, List, Non
 ghost use Rattle.knx_model.specs.Outside.{Rose};
 ghost use Rattle.line_model.specs.LinkStory.{IsNewLink};
 ghost use Rattle.line_model.specs.Record.{entries};
-ghost use Rattle.line_model.specs.Renews.{AcknowledgesRightly};
 ghost use Rattle.address_world.specs.AddressStory.{Told};
 ghost use Rattle.address_law.specs.Calm.{AreCalm};
 ghost use Rattle.address_law.specs.Determined.{IsDetermined};
 ghost use Rattle.address_world.specs.Shown.{shown};
 ghost use Rattle.address_world.specs.AddressWorld.{AddressEvent, AddressWorld, replay};
-ghost use Rattle.address_world.specs.Keeps.{AlwaysKeepsUnits};
+ghost use Rattle.address_world.specs.Keeps.{AlwaysKeepsUnits, PutsOnly};
 ghost use Rattle.address_talk.specs.Ends.{EndsSo, FailsBy, HasThreeTries, Leaves};
+ghost use Rattle.address_commission.specs.Always.{AsksSoFar, KeepsChannel};
 ghost use Rattle.address_commission.specs.Exact.{WhereExact};
 ghost use Rattle.tunnel_link.specs.Rights.{WhereTold};
 
@@ -36,7 +36,8 @@ pub fn assign<R: Wait, L: AddressLink>(
     requires { IsNewLink (L.story link) }
     ensures ends { WhereExact (EndsSo wanted result.1) (L.story result.0) }
     ensures leaves { IfOk result.1 (λ assigned. ¬ Rose (L.faults link) (L.faults result.0) → WhereExact (Leaves wanted assigned) (L.story result.0)) }
-    ensures acknowledges { WhereTold (λ places. AcknowledgesRightly (entries places)) (L.story result.0) }
+    ensures channel { WhereTold KeepsChannel (L.story result.0) }
+    ensures puts { WhereTold (λ places. PutsOnly wanted (entries places)) (L.story result.0) }
     ensures units { (start : AddressWorld) (events : List AddressEvent) → L.told result.0 ≡ Told start events → AlwaysKeepsUnits wanted start events }
     ensures determined { (start : AddressWorld) (events : List AddressEvent) → L.told result.0 ≡ Told start events → AreCalm start events → IsDetermined wanted (map shown start.units) (map shown (replay start events).units) result.1 }
     ensures cause { IfErr result.1 (λ fault. FailsBy fault (L.faults link) (L.faults result.0)) }
@@ -64,6 +65,7 @@ fn talk<R: Wait, L: Link>(
     requires new { IsNewLink (L.story tunnel.old.link) }
     ensures ends { WhereExact (EndsSo wanted result) (L.story tunnel.new.link) }
     ensures leaves { IfOk result (λ assigned. ¬ Rose (L.faults tunnel.old.link) (L.faults tunnel.new.link) → WhereExact (Leaves wanted assigned) (L.story tunnel.new.link)) }
+    ensures puts { AsksSoFar wanted (L.story tunnel.new.link) }
     ensures tries { HasThreeTries result }
     ensures cause { IfErr result (λ fault. FailsBy fault (L.faults tunnel.old.link) (L.faults tunnel.new.link)) }
     ensures count { L.faults tunnel.old.link ≤ L.faults tunnel.new.link }

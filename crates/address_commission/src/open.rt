@@ -1,15 +1,12 @@
 //! Opening the channel.
 
 ghost use Rattle.std.specs.Prelude.{◌≡◌, ◌≤◌, IfErr, OnOk, None};
-ghost use Rattle.line_model.specs.Asks.{HasPlace};
-ghost use Rattle.line_model.specs.ClientView.{channel};
-ghost use Rattle.line_model.specs.Record.{entries};
 ghost use Rattle.tunnel_link.specs.Adds.{HasActed};
 ghost use Rattle.address_talk.specs.Ends.{FailsBy};
+ghost use Rattle.address_commission.specs.Always.{AsksNoOther, IsFree};
 ghost use Rattle.address_commission.specs.Calls.{TalkGoes};
 ghost use Rattle.address_talk.specs.Rounds.{SameRounds};
 ghost use Rattle.address_commission.specs.declared.ear.Ear.{Ear as HeldEar};
-ghost use Rattle.address_commission.specs.Exact.{WhereExact};
 
 use crate::ear::Ear;
 use crate::told::told;
@@ -27,8 +24,9 @@ pub fn open<R: Wait, L: Link>(
 ) -> Result<(), AssignFault>
     requires stands { tunnel.old.known.fault ≡ None }
     ensures goes { TalkGoes SameRounds ear.old ear.new (L.story tunnel.old.link) (L.story tunnel.new.link) result }
-    ensures place { OnOk result (WhereExact (λ places. HasPlace (channel (entries places))) (L.story tunnel.new.link)) }
     ensures stands { OnOk result (tunnel.new.known.fault ≡ None) }
+    ensures free { OnOk result (IsFree (L.story tunnel.new.link)) }
+    ensures puts { AsksNoOther (L.story tunnel.old.link) (L.story tunnel.new.link) }
     ensures cause { IfErr result (λ fault. FailsBy fault (L.faults tunnel.old.link) (L.faults tunnel.new.link)) }
     ensures count { L.faults tunnel.old.link ≤ L.faults tunnel.new.link }
     ensures script { L.script tunnel.new.link ≡ L.script tunnel.old.link }
@@ -50,6 +48,7 @@ fn seek<L: Link>(tunnel: &mut Tunnel<L>) -> Result<(), AssignFault>
     ensures goes { (e : HeldEar) → TalkGoes SameRounds e e (L.story tunnel.old.link) (L.story tunnel.new.link) result }
     ensures acted { OnOk result (HasActed tunnel.old.known (L.story tunnel.old.link) → HasActed tunnel.new.known (L.story tunnel.new.link)) }
     ensures stands { OnOk result (tunnel.new.known.fault ≡ None) }
+    ensures puts { AsksNoOther (L.story tunnel.old.link) (L.story tunnel.new.link) }
     ensures cause { IfErr result (λ fault. FailsBy fault (L.faults tunnel.old.link) (L.faults tunnel.new.link)) }
     ensures count { L.faults tunnel.old.link ≤ L.faults tunnel.new.link }
     ensures script { L.script tunnel.new.link ≡ L.script tunnel.old.link }

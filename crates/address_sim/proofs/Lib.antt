@@ -6,6 +6,7 @@ pub mod Held
 pub mod Quiet
 pub mod Polling
 pub mod Links
+pub mod Sound
 pub mod Waiting
 pub mod Carried
 pub mod Stays

@@ -63,7 +63,7 @@ record_later what wait old new polls =
 same_entries : (one other : List Entry) → Recorded Exact one ≡ Recorded Exact other → one ≡ other
 same_entries one other e = cc
 
-polls_later : (what : Item) (wait : ℕ) (old new : RunNow) → Polls what wait (time new) (story old) (story new) → RunsLater old new
+pub polls_later : (what : Item) (wait : ℕ) (old new : RunNow) → Polls what wait (time new) (story old) (story new) → RunsLater old new
 polls_later what wait old new polls =
     record_later what wait old new (subst (λ (es : List Entry). PollsRecord Exact what wait (time new) es (entries new)) (sym (same_entries (entries old) polls.0 polls.1)) polls.2)
 

@@ -1,6 +1,7 @@
--- The simulated bus as it is driven: its run, and how many of its calls failed.
-use Rattle.std.specs.Prelude.{ℕ, [], Option, Some, None}
-use Rattle.address_sim.specs.Told.{RunNow}
+-- The simulated bus as it is driven: its run, and how many of its calls failed, which is none before its clock runs out.
+use Rattle.std.specs.Prelude.{◌≡◌, ◌⊎◌, ◌+◌, ◌<◌, ◌^◌, ℕ, [], Option, Some, None}
+use Rattle.knx_model.specs.Connection.{last_time}
+use Rattle.address_sim.specs.Told.{RunNow, time}
 use Rattle.address_sim.specs.Turns.{RunState, seen}
 
 pub record BusNow : Type 0 where
@@ -14,3 +15,13 @@ nothing_run = record { begun = record { tunnel = record { raw = 0x11FF }; units 
 abbrev pub bus_of : Option RunState → RunNow
 bus_of None = nothing_run
 bus_of (Some r) = seen r
+
+-- ---- its end: the greatest time of 64 bits, 584 million years after it began
+
+-- a wait may pass that: one is shorter than 2^32 ms
+abbrev pub RunsOut : RunNow → Type 0
+RunsOut r = last_time < time r + 2 ^ 32
+
+-- so many calls of the run failed: none before its end
+abbrev pub FailsAtEnd : ℕ → RunNow → Type 0
+FailsAtEnd faults r = (faults ≡ 0) ⊎ RunsOut r

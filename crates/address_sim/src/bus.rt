@@ -3,7 +3,7 @@
 ghost use Rattle.std.specs.Prelude.{◌≡◌, ◌≤◌, [], IfOk, OnErr, OnOk, length, map};
 ghost use Rattle.address_world.specs.AddressLegal.{IsFresh, IsLegal};
 ghost use Rattle.address_world.specs.AddressStory.{record_of};
-ghost use Rattle.address_sim.specs.Driven.{bus_of, nothing_run};
+ghost use Rattle.address_sim.specs.Driven.{FailsAtEnd, bus_of, nothing_run};
 ghost use Rattle.address_sim.specs.Follows.{FollowsText};
 ghost use Rattle.address_sim.specs.Told.{start, time, units_now};
 ghost use Rattle.address_sim.specs.Turns.{seen};
@@ -25,11 +25,13 @@ pub struct AddressBus {
 }
 
 impl Model for AddressBus {
-    ghost use Rattle.address_sim.specs.Driven.{BusNow, bus_of};
+    ghost use Rattle.address_sim.specs.Driven.{BusNow, FailsAtEnd, bus_of};
 
     ghost Value = { BusNow };
 
     ghost view = { λ b. record { run = bus_of b.run; faults = b.faults } };
+
+    ghost invariant = { λ b. FailsAtEnd b.faults (bus_of b.run) };
 }
 
 impl AddressBus {
@@ -69,11 +71,13 @@ impl AddressBus {
         }
     }
 
-    /// What holds of each run, for a caller to know: its start is fresh, its events are legal, and nothing is lost but what the text says. It does nothing.
+    /// What holds of each run, for a caller to know: its start is fresh, its events are legal, nothing is lost but what the text says, and no call of it failed
+    /// before its end. It does nothing.
     pub fn keeps(&self)
         ensures fresh { IsFresh (start self.now.run) }
         ensures legal { IsLegal (start self.now.run) self.now.run.events }
         ensures follows { FollowsText self.now.run.begun.losses (start self.now.run) self.now.run.events }
+        ensures faults { FailsAtEnd self.now.faults self.now.run }
     {
         if let Some(run) = &self.run {
             run.keeps();

@@ -38,7 +38,8 @@ impl AddressBus {
         Ok(())
     }
 
-    /// All goes on until the client gets a datagram or the wait is over. Only at the last time of 64 bits does it fail otherwise than for want of memory.
+    /// All goes on until the client gets a datagram or the wait is over. Only where that would pass the last time of 64 bits does it fail otherwise than for want
+    /// of memory.
     pub(crate) fn poll_run(
         &mut self,
         into: &mut [u8; 512],

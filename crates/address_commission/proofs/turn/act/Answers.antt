@@ -2,6 +2,7 @@ use Rattle.std.proofs.Common.{subst, sym}
 use Rattle.tunnel_link.specs.Adds.{Growing, Acts}
 use Rattle.address_talk.specs.Rounds.{SameRounds}
 use Rattle.address_commission.specs.Calls.{TalkGoes}
+use Rattle.address_commission.proofs.Asking.{act_asks}
 use Rattle.address_commission.proofs.Calls.{handed_on, told_ok, told_failed, paced_so_far, act_talks, act_goes}
 use Rattle.address_commission.proofs.Closing.{act_closes, ends_none_of, goes_same_rounds}
 use Rattle.address_commission.proofs.turn.act.Goals as goal
@@ -22,3 +23,9 @@ returns-clause-same g c = goes_same_rounds _ _ (λ wanted. act_closes c.act-acte
 
 pub returns-in_err-acted-clause-same : goal.returns-in_err-acted-clause-same
 returns-in_err-acted-clause-same g c = goes_same_rounds _ _ (λ wanted. act_closes c.act-acted.result wanted _ _ c.act-acted.ensures.grows c.act-acted.ensures.adds)
+
+pub returns-clause-puts : goal.returns-clause-puts
+returns-clause-puts g c = act_asks c.act-acted.result _ _ c.act-acted.ensures.grows c.act-acted.ensures.adds
+
+pub returns-in_err-acted-clause-puts : goal.returns-in_err-acted-clause-puts
+returns-in_err-acted-clause-puts g c = act_asks c.act-acted.result _ _ c.act-acted.ensures.grows c.act-acted.ensures.adds
