@@ -11,23 +11,20 @@ ghost use Rattle.knx_model.specs.Rules.{first_broken, devices_of};
 ghost use Rattle.knx_model.specs.Tables.{StandsFor};
 ghost use Rattle.project_check.specs.Devices.{raw_of};
 ghost use Rattle.table_compiler.specs.Drafts.{IsSoundDraft};
-ghost use Rattle.table_compiler.specs.Images.{IsImage, IsImageOfDraft};
+ghost use Rattle.table_compiler.specs.Images.{IsImageOfDraft};
 
-use crate::drafts::{Draft, draft_of, drafts_of};
+use crate::drafts::{Draft, draft_of};
 use crate::links::links_of;
 use crate::models::{inline, model_of};
 use crate::objects::objects_of;
 use crate::parameters::settings;
+use crate::pieces::compile_devices;
 use crate::tables::image_of;
-use knx_model::{Catalogue, Image, IndAddr, List, NoMemory, Statement};
+use knx_model::{Catalogue, Image, IndAddr, List, NoMemory};
 use parameter_memory::lay;
 use project_check::Checked;
-use rayon::prelude::*;
 use std::alloc::Global;
 use std::thread::Threads;
-
-/// How few devices are worth a thread of their own.
-const LEAST_PIECE: usize = 4;
 
 /// The tables and the parameter memory of a device of the project; one that the project doesn't have has no objects.
 pub fn compile(alloc: Global, checked: &Checked<'_, '_>, device: IndAddr) -> Result<Image, NoMemory>
@@ -61,7 +58,11 @@ pub fn compile_all<R: Threads + Sync>(
 }
 
 /// The image of a device, from what its lines say.
-fn compile_draft(alloc: Global, catalogue: &Catalogue, draft: &Draft<'_>) -> Result<Image, NoMemory>
+pub fn compile_draft(
+    alloc: Global,
+    catalogue: &Catalogue,
+    draft: &Draft<'_>,
+) -> Result<Image, NoMemory>
     requires { IsSoundDraft catalogue.now draft.now }
     ensures { IfOk result (IsImageOfDraft catalogue.now draft.now) }
 {
@@ -72,43 +73,4 @@ fn compile_draft(alloc: Global, catalogue: &Catalogue, draft: &Draft<'_>) -> Res
     let settings = settings(alloc, model, &draft.values)?;
     let params = lay(alloc, model, settings.as_slice())?;
     image_of(alloc, links.as_slice(), objects.as_slice(), params)
-}
-
-/// The image of each draft, in order. Pieces of the drafts are compiled in threads of their own.
-fn compile_drafts<R: Threads + Sync>(
-    rt: &R,
-    alloc: Global,
-    catalogue: &Catalogue,
-    drafts: &[Draft<'_>],
-) -> Result<List<Image>, NoMemory>
-    requires sound { All (IsSoundDraft catalogue.now) drafts.now }
-    ensures { IfOk result (λ images. AllZip (IsImageOfDraft catalogue.now) drafts.now images) }
-{
-    let images: Result<Vec<Image>, NoMemory> = drafts
-        .par_iter()
-        .with_min_len(LEAST_PIECE)
-        .map(
-            |draft: &Draft<'_>| -> Result<Image, NoMemory>
-                requires { IsSoundDraft catalogue.now draft.now }
-                ensures { IfOk result (IsImageOfDraft catalogue.entry.now draft.now) }
-            { compile_draft(alloc, catalogue, draft) },
-        )
-        .collect(rt, alloc)?;
-    Ok(List::from_vec(images?))
-}
-
-/// The images of these devices of a text that breaks no rule. What their lines say is gathered in one pass over the text.
-pub fn compile_devices<R: Threads + Sync>(
-    rt: &R,
-    alloc: Global,
-    catalogue: &Catalogue,
-    statements: &[Statement<'_>],
-    devices: &[IndAddr],
-) -> Result<List<Image>, NoMemory>
-    requires sound { first_broken catalogue.now statements.now ≡ None }
-    requires ascending { IsStrictlyIncreasing (map raw_of devices.now) }
-    ensures { IfOk result (λ images. AllZip (IsImage (record { statements = statements.now; catalogue = catalogue.now })) devices.now images) }
-{
-    let drafts = drafts_of(alloc, devices, statements)?;
-    compile_drafts(rt, alloc, catalogue, drafts.as_slice())
 }

@@ -6,8 +6,9 @@ ghost use Rattle.knx_model.specs.Meaning.{Installation};
 ghost use Rattle.knx_model.specs.Rules.{has_device};
 ghost use Rattle.table_compiler.specs.Images.{AreImagesOf, IsImage, is_among};
 
-use crate::compiler::{compile, compile_devices};
+use crate::compiler::compile;
 use crate::devices::place_of;
+use crate::pieces::compile_devices;
 use knx_model::{Image, IndAddr, List, NoMemory, Octets};
 use project_check::Checked;
 use std::alloc::{AllocError, Global};

@@ -21,6 +21,7 @@ mod links;
 mod models;
 mod objects;
 mod parameters;
+mod pieces;
 mod tables;
 
 pub use compiler::{compile, compile_all};
