@@ -1,7 +1,7 @@
 -- Looking for gateways over a link (ISO 22510, Core, search and self description), by the link's record: the request is sent once, or once more where
 -- nothing was found until it was quiet; datagrams are taken until it is quiet, 64 gateways are found or 65,536 datagrams are taken. By an exact clock it is
 -- quiet where for 3,000 ms in turn nothing came; by one that runs, where a poll brought nothing, however long it lasted. The newest entry first.
-use Rattle.std.specs.Prelude.{◌≡◌, ℕ, ◌+◌, ◌<◌, ◌≤◌, ◌⊎◌, Bool, true, false, List, [], ◌∷◌, ◌++◌, length, Option, Some, None, Result, Ok, if◌then◌else◌}
+use Rattle.std.specs.Prelude.{◌≡◌, ℕ, ◌+◌, ◌<◌, ◌≤◌, ◌⊎◌, Bool, true, false, List, [], ◌∷◌, ◌++◌, length, Result, Ok, if◌then◌else◌}
 use Rattle.line_model.specs.declared.outside.link.LinkFault.{LinkFault}
 use Rattle.line_model.specs.LinkStory.{Clock, Story, Untold, Recorded, Full, Exact, Running, newest_time}
 use Rattle.line_model.specs.Record.{Item, Put, Renewed, Got, Quiet, Entry, is_poll, record_of}
