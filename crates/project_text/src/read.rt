@@ -21,8 +21,9 @@ use memchr::memrchr;
 use std::alloc::Global;
 use std::thread::{Threads, join};
 
-/// The octets of a text that one thread reads; a longer one is cut.
-const LONGEST_PART: usize = 1 << 19;
+/// The octets of a text that one thread reads; a longer one is cut. The longest text of all is cut into eight parts, though a cut stands
+/// before the middle.
+const LONGEST_PART: usize = 520 << 10;
 
 /// A text has at most 4,194,304 octets; a longer one is refused at line 0.
 fn fits(octets: &[u8]) -> Result<(), Refused>
@@ -124,7 +125,6 @@ fn read_parts<'a, R: Threads + Sync>(
     let Some((front, back)) = halves(octets) else {
         return read_lines(alloc, grammar, first, octets);
     };
-    let behind = first + feeds_in(front) as u32;
     let (said, later) = join(
         rt,
         || -> Result<List<Statement<'_>>, Refused>
@@ -132,9 +132,9 @@ fn read_parts<'a, R: Threads + Sync>(
             ensures { IsRead grammar first front.entry.now result }
         { read_parts(rt, alloc, grammar, first, front) },
         || -> Result<List<Statement<'_>>, Refused>
-            requires { IsSync R.row × (behind + length back.now ≤ 4194305) }
-            ensures { IsRead grammar behind back.entry.now result }
-        { read_parts(rt, alloc, grammar, behind, back) },
+            requires { IsSync R.row × (first + length front.now + length back.now ≤ 4194305) }
+            ensures { IsRead grammar (first + count_by is_feed front.entry.now) back.entry.now result }
+        { read_parts(rt, alloc, grammar, first + feeds_in(front) as u32, back) },
     );
     joined(said, later)
 }
