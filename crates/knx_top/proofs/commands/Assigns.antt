@@ -1,11 +1,12 @@
 -- `assign`: what it comes to, and what is written of it.
-use Rattle.std.proofs.Common.{◌≡◌, ◌≢◌, ℕ, ◌≤◌, ◌∙◌, ap, true, ◌⊎◌, Option, None, Some, List, [], ◌∷◌, Result, Ok, Err, refl, sym, subst, inl, inr}
+use Rattle.std.proofs.Common.{◌≡◌, ◌≢◌, ℕ, ◌<◌, ◌≤◌, arith, ◌∙◌, ap, true, ◌⊎◌, Option, None, Some, List, [], ◌∷◌, Result, Ok, Err, refl, sym, subst, inl, inr}
 use Rattle.std.specs.Prelude.{IfErr, IfOk, map}
 use Rattle.address_talk.specs.Ends.{EndsSo, FailsBy, Leaves}
 use Rattle.address_law.specs.Calm.{AreCalm}
 use Rattle.address_law.specs.Determined.{IsDetermined}
+use Rattle.address_commission.specs.Always.{KeepsChannel}
 use Rattle.address_commission.specs.Exact.{WhereExact}
-use Rattle.address_sim.specs.Driven.{BusNow}
+use Rattle.address_sim.specs.Driven.{BusNow, FailsAtEnd, RunsOut}
 use Rattle.address_sim.specs.Follows.{FollowsText}
 use Rattle.address_sim.specs.Stays.{lines_of}
 use Rattle.address_sim.specs.Told.{Begun, RunNow, at_rest, start, start_of, story, told as told_of, units_now}
@@ -13,7 +14,7 @@ use Rattle.address_world.specs.Shown.{shown}
 use Rattle.address_world.specs.AddressLegal.{IsFresh, IsLegal}
 use Rattle.address_world.specs.AddressStory.{Told}
 use Rattle.address_world.specs.AddressWorld.{AddressEvent, AddressWorld, replay}
-use Rattle.address_world.specs.Keeps.{AlwaysKeepsUnits}
+use Rattle.address_world.specs.Keeps.{AlwaysKeepsUnits, PutsOnly}
 use Rattle.address_world.specs.declared.unit.UnitLoss.{UnitLoss}
 use Rattle.address_sim.specs.Undisturbed.{NothingLost}
 use Rattle.address_text.specs.UnitText.{unit_reading}
@@ -22,11 +23,10 @@ use Rattle.call_words.specs.declared.input_file.InputFile.TheVariants as file
 use Rattle.call_words.specs.declared.stop.Stop.{Stop}
 use Rattle.call_words.specs.declared.stop.Stop.TheVariants as stop
 use Rattle.knx_model.specs.declared.address.IndAddr.{IndAddr}
-use Rattle.knx_model.specs.Outside.{FilesNow, Rose, one_more}
+use Rattle.knx_model.specs.Outside.{FilesNow, Rose, greatest_count, one_more}
 use Rattle.line_model.specs.Dialled.{Address, DialerNow, Tells}
 use Rattle.line_model.specs.LinkStory.{Story}
 use Rattle.line_model.specs.Record.{entries}
-use Rattle.line_model.specs.Renews.{AcknowledgesRightly}
 use Rattle.tunnel_link.specs.Rights.{WhereTold}
 use Rattle.call_parts.specs.Ending.{Is, StopsFor, report_in, wanting}
 use Rattle.call_parts.specs.Input.{IsRead, OnlyRose, failed, fault_in, first_some, octets_of}
@@ -155,11 +155,12 @@ units_give words reading before after end h = does_by (after ≡ before) (λ tex
 
 -- ---- what was given, by what the link told
 
-pub over_of : (wanted : IndAddr) (came : Outcome) (before faults : ℕ) (link : Story) → before ≡ 0 → WhereExact (EndsSo wanted came) link → WhereTold (λ places. AcknowledgesRightly (entries places)) link
-    → IfOk came (λ assigned. ¬ Rose before faults → WhereExact (Leaves wanted assigned) link) → IfErr came (λ fault. FailsBy fault before faults) → GivesOver wanted came faults link
-over_of wanted came before faults link none ended acknowledges leaves cause = record {
+pub over_of : (wanted : IndAddr) (came : Outcome) (before faults : ℕ) (link : Story) → before ≡ 0 → WhereExact (EndsSo wanted came) link → WhereTold KeepsChannel link
+    → WhereTold (λ places. PutsOnly wanted (entries places)) link → IfOk came (λ assigned. ¬ Rose before faults → WhereExact (Leaves wanted assigned) link) → IfErr came (λ fault. FailsBy fault before faults) → GivesOver wanted came faults link
+over_of wanted came before faults link none ended channel puts leaves cause = record {
   ends = ended;
-  acknowledges = acknowledges;
+  channel = channel;
+  puts = puts;
   leaves = subst (λ (n : ℕ). IfOk came (λ assigned. ¬ Rose n faults → WhereExact (Leaves wanted assigned) link)) none leaves;
   cause = subst (λ (n : ℕ). IfErr came (λ fault. FailsBy fault n faults)) none cause;
 }
@@ -204,12 +205,22 @@ determined_on wanted text after came determine buses begun follows nothing =
     subst (λ (units : List BusUnit). IsDetermined wanted units (units_now after.run) came) (ap (λ (z : Begun). map shown (start_of z).units) begun ∙ shown_rest text.0)
     (determine (start after.run) after.run.events refl (buses text.1 (start after.run) after.run.events follows nothing))
 
+-- a count that rose, of calls that fail only at the end
+failed_last : (before after : ℕ) (run : RunNow) → before ≡ 0 → Rose before after → FailsAtEnd after run → RunsOut run
+failed_last before after run none rose (inr out) = out
+failed_last before after run none (inl more) (inl still) = absurd (none_more before after still more) where
+  none_more : (a b : ℕ) → b ≡ 0 → a < b → ⊥
+  none_more a b e lt = omega (arith, e, lt)
+failed_last before after run none (inr most) (inl still) = absurd (not_most after most still) where
+  not_most : (n : ℕ) → n ≡ greatest_count → n ≡ 0 → ⊥
+  not_most n most none = omega (arith, most, none)
+
 pub given_sim : (wanted : IndAddr) (text : Units) (bus after : BusNow) (came : Outcome) → BeginsAs wanted (Ok text) bus → ((one other : Begun) → lines_of one ≡ lines_of other → one ≡ other) → QuietBuses → QuietTexts → lines_of after.run.begun ≡ lines_of bus.run.begun
     → IsFresh (start after.run) → IsLegal (start after.run) after.run.events → FollowsText after.run.begun.losses (start after.run) after.run.events
     → ((from : AddressWorld) (events : List AddressEvent) → told_of after.run ≡ Told from events → AlwaysKeepsUnits wanted from events) → UnitsDetermine wanted after came → bus.faults ≡ 0
-    → WhereExact (EndsSo wanted came) (story after.run) → WhereTold (λ places. AcknowledgesRightly (entries places)) (story after.run)
+    → FailsAtEnd after.faults after.run → WhereExact (EndsSo wanted came) (story after.run) → WhereTold KeepsChannel (story after.run) → WhereTold (λ places. PutsOnly wanted (entries places)) (story after.run)
     → IfOk came (λ assigned. ¬ Rose bus.faults after.faults → WhereExact (Leaves wanted assigned) (story after.run)) → IfErr came (λ fault. FailsBy fault bus.faults after.faults) → GivesOnBus wanted text after came
-given_sim wanted text bus after came b law buses texts same fresh legal follows units determine none ended acknowledges leaves cause =
+given_sim wanted text bus after came b law buses texts same fresh legal follows units determine none faults ended channel puts leaves cause =
     let begun : after.run.begun ≡ begun_by wanted text = law after.run.begun bus.run.begun same ∙ run_begun wanted text bus b in
     let follows_it : FollowsText text.1 (start after.run) after.run.events = subst (λ (losses : List UnitLoss). FollowsText losses (start after.run) after.run.events) (ap (λ (z : Begun). z.losses) begun) follows in
     record {
@@ -220,7 +231,8 @@ given_sim wanted text bus after came b law buses texts same fresh legal follows 
       units = units (start after.run) after.run.events refl;
       nothing_lost = lost_nothing text after texts follows_it;
       determined = determined_on wanted text after came determine buses begun follows_it;
-      over = over_of wanted came bus.faults after.faults (story after.run) none ended acknowledges leaves cause;
+      over = over_of wanted came bus.faults after.faults (story after.run) none ended channel puts leaves cause;
+      last = λ failed. failed_last bus.faults after.faults after.run none (subst (λ (o : Outcome). IfErr o (λ fault. FailsBy fault bus.faults after.faults)) failed cause) faults;
     }
 
 -- what was judged has begun a bus on which nothing was done

@@ -6,16 +6,18 @@ use Rattle.std.specs.Prelude.{ℕ, ◌≡◌, ◌≤◌, ◌+◌, ◌*◌, ◌/�
 use Rattle.std.specs.Option.{option_map}
 use Rattle.address_talk.specs.declared.assigned.Assigned.{Assigned}
 use Rattle.address_talk.specs.declared.assigned.AssignFault.{AssignFault}
+use Rattle.address_talk.specs.declared.assigned.AssignFault.TheVariants.{LinkFailed}
 use Rattle.address_talk.specs.Ends.{EndsSo, FailsBy, Leaves}
 use Rattle.address_law.specs.Determined.{IsDetermined}
+use Rattle.address_commission.specs.Always.{KeepsChannel}
 use Rattle.address_commission.specs.Exact.{WhereExact}
-use Rattle.address_sim.specs.Driven.{BusNow}
+use Rattle.address_sim.specs.Driven.{BusNow, RunsOut}
 use Rattle.address_sim.specs.Follows.{FollowsText}
 use Rattle.address_sim.specs.Told.{Begun, start, story, units_now}
 use Rattle.address_sim.specs.Undisturbed.{NothingLost}
 use Rattle.address_text.specs.UnitText.{unit_reading}
 use Rattle.address_world.specs.AddressLegal.{IsFresh, IsLegal}
-use Rattle.address_world.specs.Keeps.{AlwaysKeepsUnits}
+use Rattle.address_world.specs.Keeps.{AlwaysKeepsUnits, PutsOnly}
 use Rattle.address_world.specs.declared.unit.Unit.{Unit as BusUnit}
 use Rattle.address_world.specs.declared.unit.UnitLoss.{UnitLoss}
 use Rattle.call_words.specs.declared.input_file.InputFile.TheVariants as file
@@ -28,7 +30,6 @@ use Rattle.knx_model.specs.Outside.{FilesNow, Rose, one_more}
 use Rattle.line_model.specs.Dialled.{Address, DialerNow, TakesBack, Tells}
 use Rattle.line_model.specs.LinkStory.{Story}
 use Rattle.line_model.specs.Record.{entries}
-use Rattle.line_model.specs.Renews.{AcknowledgesRightly}
 use Rattle.tunnel_link.specs.Rights.{WhereTold}
 use Rattle.knx_top.specs.Dialled.{FailsToOpen}
 use Rattle.call_parts.specs.Ending.{StopsFor}
@@ -67,12 +68,14 @@ assign_sim_words units wanted = option_map (λ (ia : IndAddr). let w : AssignSim
 abbrev pub Outcome : Type 0
 Outcome = Result Assigned AssignFault
 
--- By what the link told last, each tunnelling request is acknowledged before the next poll. Where its clock is exact, an answer and a fault are told exactly at
--- their cause, and behind an answer the channel is asked to end, once, unless a call of the link failed. A fault of the link is told only where its count rose,
+-- By what the link told last: the channel is kept as it should be, whatever the clock. Where that is exact, an answer and a fault are told exactly at their
+-- cause, and behind an answer the channel is asked to end, once, unless a call of the link failed. A fault of the link is told only where its count rose,
 -- which was 0.
 pub record GivesOver (wanted : IndAddr) (came : Outcome) (faults : ℕ) (last : Story) : Type 0 where
   pub ends : WhereExact (EndsSo wanted came) last
-  pub acknowledges : WhereTold (λ places. AcknowledgesRightly (entries places)) last
+  pub channel : WhereTold KeepsChannel last
+  -- no request whose frame reads was sent but broadcast reads of addresses, broadcast writes of the wanted one, T_Connects and T_Disconnects to it
+  pub puts : WhereTold (λ places. PutsOnly wanted (entries places)) last
   pub leaves : IfOk came (λ assigned. ¬ Rose 0 faults → WhereExact (Leaves wanted assigned) last)
   pub cause : IfErr came (λ fault. FailsBy fault 0 faults)
 
@@ -130,7 +133,7 @@ assign_sim_tests words reading = fault_in (Some words.units) reading ∷ text_re
 
 -- The bus is as it was left: it began as the text says, all that happened on it is legal and follows the text. At every moment each unit has its start's
 -- address, or is in programming mode and has the wanted one. Where nothing was lost, as with a text
--- without losses, the units of the text determine what came of it, and the units at the end.
+-- without losses, the units of the text determine what came of it, and the units at the end. The link fails only where the clock runs out.
 pub record GivesOnBus (wanted : IndAddr) (text : Units) (after : BusNow) (came : Outcome) : Type 0 where
   pub begun : after.run.begun ≡ begun_by wanted text
   pub fresh : IsFresh (start after.run)
@@ -140,6 +143,7 @@ pub record GivesOnBus (wanted : IndAddr) (text : Units) (after : BusNow) (came :
   pub nothing_lost : text.1 ≡ [] → NothingLost after.run.events
   pub determined : NothingLost after.run.events → IsDetermined wanted text.0 (units_now after.run) came
   pub over : GivesOver wanted came after.faults (story after.run)
+  pub last : came ≡ Err LinkFailed → RunsOut after.run
 
 -- memory is wanting before anything is done; or the address was given on the bus, and its units are told as they now are
 abbrev pub GivesSim : IndAddr → Units → BusNow → BusNow → End → Type 0

@@ -8,7 +8,7 @@ returns-clause-tells g c = (
     faults = _;
     taken = c.hang.ensures.count;
     over = rw (c.hang.ensures.told, c.back.ensures)
-        (over_of c.args.wanted c.assign-link.result.1 _ _ _ (rw c.new.ensures c.requires.sound) c.assign-link.ensures.ends c.assign-link.ensures.acknowledges c.assign-link.ensures.leaves c.assign-link.ensures.cause);
+        (over_of c.args.wanted c.assign-link.result.1 _ _ _ (rw c.new.ensures c.requires.sound) c.assign-link.ensures.ends c.assign-link.ensures.channel c.assign-link.ensures.puts c.assign-link.ensures.leaves c.assign-link.ensures.cause);
   },
   rw (c.new-2.ensures) at c.of.ensures,
 )
