@@ -1,5 +1,5 @@
 -- What a binary search among ascending devices says, and the image that stands beside a device.
-use Rattle.std.proofs.Common.{◌≡◌, ℕ, zero, suc, ◌<◌, ◌≤◌, Bool, false, true, cond, eqb, ◌&&◌, filter, List, [], ◌∷◌, ◌++◌, length, get_or, map, Option, Some, None, Result, Ok, Err, refl, sym, ap, ◌∙◌, subst, arith, inl, inr}
+use Rattle.std.proofs.Common.{◌≡◌, ℕ, zero, suc, ◌-◌, ◌<◌, ◌≤◌, Bool, false, true, cond, eqb, ◌&&◌, filter, List, [], ◌∷◌, ◌++◌, length, get_or, map, Option, Some, None, Result, Ok, Err, refl, sym, ap, ◌∙◌, subst, arith, inl, inr}
 use Rattle.std.specs.Prelude.{IfNone, IsPermutation, slice_get}
 use Rattle.std.specs.Result.{result_ok}
 use Rattle.std.specs.List.{AllZip, AllByRecursion, list_any}
@@ -44,6 +44,24 @@ of_numbers ds x i parted = λ rises.
       λ k d from to. rw (get_raw ds k d) (here.0 k (record { raw = d }) from to),
       λ k d from to. rw (get_raw ds k d) (here.1 k (record { raw = d }) from (omega (arith, to, length-map ds raw_of))),
     )
+
+-- a device below the first is none of them
+pub below_all : (ds : List IndAddr) (device d : IndAddr) → IsStrictlyIncreasing (map raw_of ds) → device.raw < (get_or ds 0 d).raw → list_any (λ d. eqb d.raw device.raw) ds ≡ false
+below_all ds device first up below = list_any_none (λ d. eqb d.raw device.raw) ds (λ k d lt.
+    ne_eqb (get_or ds k d).raw device.raw (λ same.
+    let here : get_or (map raw_of ds) k 0 ≡ (get_or ds k d).raw = get_or-map raw_of ds k d 0 lt in
+    let there : get_or (map raw_of ds) 0 0 ≡ (get_or ds 0 first).raw = get_or-map raw_of ds 0 first 0 (omega (arith, lt)) in
+    let least : get_or (map raw_of ds) 0 0 ≤ get_or (map raw_of ds) k 0 = never_falls (map raw_of ds) up 0 k (omega arith) (omega (arith, lt, length-map ds raw_of)) in
+    omega (arith, here, there, same, least, below)))
+
+-- nor is one above the last
+pub above_all : (ds : List IndAddr) (device d : IndAddr) → IsStrictlyIncreasing (map raw_of ds) → (get_or ds (length ds - 1) d).raw < device.raw → list_any (λ d. eqb d.raw device.raw) ds ≡ false
+above_all ds device last up above = list_any_none (λ d. eqb d.raw device.raw) ds (λ k d lt.
+    ne_eqb (get_or ds k d).raw device.raw (λ same.
+    let here : get_or (map raw_of ds) k 0 ≡ (get_or ds k d).raw = get_or-map raw_of ds k d 0 lt in
+    let there : get_or (map raw_of ds) (length ds - 1) 0 ≡ (get_or ds (length ds - 1) last).raw = get_or-map raw_of ds (length ds - 1) last 0 (omega (arith, lt)) in
+    let most : get_or (map raw_of ds) k 0 ≤ get_or (map raw_of ds) (length ds - 1) 0 = never_falls (map raw_of ds) up k (length ds - 1) (omega (arith, lt)) (omega (arith, lt, length-map ds raw_of)) in
+    omega (arith, here, there, same, most, above)))
 
 pub not_found : (ds : List IndAddr) (device : IndAddr) (r : Result ℕ ℕ) → IsBinarySearchResult (λ (d : IndAddr). nat_cmp d.raw device.raw) ds r → IsStrictlyIncreasing (map raw_of ds)
     → IfNone (result_ok r) (list_any (λ d. eqb d.raw device.raw) ds ≡ false)
