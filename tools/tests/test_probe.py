@@ -39,8 +39,11 @@ class Probe(ToolTest):
 
     def setUp(self):
         super().setUp()
-        waits = {"CONNECT_WAIT": 0.3, "STATE_WAIT": 0.3, "ACK_WAIT": 0.3, "CON_WAIT": 0.3, "T_ACK_WAIT": 0.3, "ANSWER_WAIT": 0.3, "LEAVE_WAIT": 0.3}
-        self.enterContext(mock.patch.multiple(tunnel, **waits))
+        # longer than a busy machine takes; a test in which nothing comes has shorter ones
+        self.waits(CONNECT_WAIT=3, STATE_WAIT=3, ACK_WAIT=3, CON_WAIT=3, T_ACK_WAIT=3, ANSWER_WAIT=3, LEAVE_WAIT=3)
+
+    def waits(self, **seconds):
+        self.enterContext(mock.patch.multiple(tunnel, **seconds))
 
     def served(self, *devices, **others):
         """A gateway with these devices, from 1.1.10 on."""
@@ -91,6 +94,7 @@ class Probe(ToolTest):
         self.told(first + second.replace("knx can load it, as far as this tells", f"knx can't load it: {why}"), "1.1.10", "1.1.11", status=1)
 
     def test_a_device_that_is_silent_or_closes(self):
+        self.waits(T_ACK_WAIT=0.7, ANSWER_WAIT=0.7)
         self.served(Device(is_secure=True), Device(closes_at=1), Device(closes_at=3), Device(properties={(0, 12): None}), Device())
         begun = "    mask version 07B0\n    knx can't"
         told = cannot("it acknowledged no service") + cannot("it closed the connection", "1.1.11")
@@ -108,10 +112,12 @@ class Probe(ToolTest):
         self.told(fits().replace("knx can load it, as far as this tells", "knx can't load it: the tunnel is on another line"), "1.1.10", status=1)
 
     def test_a_gateway_that_confirms_all(self):
+        self.waits(T_ACK_WAIT=0.2)
         self.served(confirms="all")
         self.told(cannot("it acknowledged no service"), "1.1.10", status=1)
 
     def test_datagrams_and_frames_are_lost_or_doubled(self):
+        self.waits(T_ACK_WAIT=0.7, ACK_WAIT=1, LEAVE_WAIT=1)
         self.served(Device(loses=[2, 5, 6]), loses=[(0x420, 1), (0x420, 4), (0x209, 1)])
         self.told(fits(), "1.1.10", status=0)
         self.served(Device(), doubles=True)
@@ -123,13 +129,13 @@ class Probe(ToolTest):
         self.assertGreater(len(self.gateway.puts), 256)
 
     def test_a_channel_is_kept(self):
+        self.waits(STATE_WAIT=1, HEARTBEAT=0)
         self.served(Device(), loses=[(0x207, 1)])
-        with mock.patch.object(tunnel, "HEARTBEAT", 0):
-            self.told(fits(), "1.1.10", status=0)
+        self.told(fits(), "1.1.10", status=0)
         self.assertEqual(self.gateway.counts[0x207], len(self.gateway.puts) + 1)
         self.served(Device(), loses=[(0x207, 1), (0x207, 2), (0x207, 3)])
-        with mock.patch.object(tunnel, "HEARTBEAT", 0):
-            self.told("device 1.1.10\n", "1.1.10", status=2, said=f"{self.at}: the gateway no longer has the tunnel\n")
+        self.waits(STATE_WAIT=0.2)
+        self.told("device 1.1.10\n", "1.1.10", status=2, said=f"{self.at}: the gateway no longer has the tunnel\n")
 
     def test_gateways_that_give_no_tunnel(self):
         self.served(refuses=0x24)
@@ -137,18 +143,21 @@ class Probe(ToolTest):
         self.served(refuses=0x2D)
         self.refuses(f"{self.at}: the gateway refused a tunnel: status 2D", self.at, "1.1.10")
         self.served(is_mute=True)
-        with mock.patch.object(tunnel, "CONNECT_WAIT", 0.2):
-            self.refuses(f"{self.at}: no gateway answered a connect request in 0.2 s", self.at, "1.1.10")
+        self.waits(CONNECT_WAIT=0.2, LEAVE_WAIT=0.2)
+        self.refuses(f"{self.at}: no gateway answered a connect request in 0.2 s", self.at, "1.1.10")
 
     def test_tunnels_that_fail(self):
+        self.waits(ACK_WAIT=0.2)
         self.served(Device(), data_port=9)
         self.head = self.head.replace(self.at, "127.0.0.1:9")
         self.told("device 1.1.10\n", "1.1.10", status=2, said=f"{self.at}: the gateway doesn't acknowledge a request: it takes them at 127.0.0.1:9, where knx sends none\n")
+        self.waits(ACK_WAIT=3, CON_WAIT=0.3)
         self.served(Device(), confirms=False)
         begun = self.head + "device 1.1.10\n"
         self.assertEqual(self.called(self.at, "1.1.10"), (2, begun.encode("ascii"), f"{self.at}: the gateway didn't confirm a frame in 0.3 s: is it on the bus?\n"))
         self.gateway.end()
         self.assertEqual(self.gateway.channel, None)
+        self.waits(CON_WAIT=3)
         self.served(Device(), ends_at=1)
         self.told("device 1.1.10\n", "1.1.10", status=2, said=f"{self.at}: the gateway ended the tunnel\n")
         self.assertEqual(self.gateway.counts[0x20A], 1)

@@ -27,7 +27,10 @@ class Search(ToolTest):
 
     def setUp(self):
         super().setUp()
-        self.enterContext(mock.patch.object(self.module, "WAIT", 0.3))
+        self.waits(1.5)
+
+    def waits(self, seconds):
+        self.enterContext(mock.patch.object(self.module, "WAIT", seconds))
 
     def answered(self, *answers, at=1):
         """Answers the request number `at`, from 1, by these datagrams."""
@@ -66,6 +69,7 @@ class Search(ToolTest):
         self.writes(f"{self.at} 1.1.255 serial 000000000001 mac 000000000001 families 02.1 03.1 04.1 name knx\n", "from=127.0.0.1")
 
     def test_what_is_no_response_is_passed_over(self):
+        self.waits(0.5)
         whole = response(information() + FAMILIES)
         self.answered(
             b"",
