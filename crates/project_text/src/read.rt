@@ -1,6 +1,6 @@
 //! A text is read line by line, and a long one in parts side by side.
 
-ghost use Rattle.std.specs.Prelude.{◌≡◌, ◌≤◌, ◌<◌, ◌+◌, ◌++◌, length, Err, OnOk, IfOk, IfErr, IfSome};
+ghost use Rattle.std.specs.Prelude.{◌≡◌, ◌≤◌, ◌<◌, ◌+◌, ◌++◌, [], length, Err, OnOk, IfOk, IfErr, IfSome};
 ghost use Rattle.std.specs.List.{count_by};
 ghost use Rattle.std.specs.Str.Lines.{lines};
 ghost use Rattle.std.specs.Thread.{IsSync};
@@ -25,6 +25,10 @@ use std::thread::{Threads, join};
 /// before the middle.
 const LONGEST_PART: usize = 520 << 10;
 
+/// The fewest octets of most lines. For so many octets of a long text there is room for a statement from the beginning, since room that
+/// grows is copied.
+const SHORT_LINE: usize = 16;
+
 /// A text has at most 4,194,304 octets; a longer one is refused at line 0.
 fn fits(octets: &[u8]) -> Result<(), Refused>
     ensures fits { OnOk result (length octets.now ≤ 4194304) }
@@ -42,17 +46,33 @@ fn fits(octets: &[u8]) -> Result<(), Refused>
     Ok(())
 }
 
-/// The statements of lines of a text of this grammar, numbered from `first`; or the first line that breaks a rule, and the rule.
+/// No statements, and room for so many.
+fn with_room<'a>(alloc: Global, room: usize) -> Result<List<Statement<'a>>, Refused>
+    ensures none { IfOk result (λ statements. statements ≡ []) }
+    ensures memory { IfErr result (λ e. e ≡ record { line = 0; why = OutOfMemory tt }) }
+{
+    match Vec::with_capacity(alloc, room) {
+        Ok(statements) => Ok(List::from_vec(statements)),
+        Err(error) => Err(Refused {
+            line: 0,
+            why: Why::NoMemory(NoMemory::from(error)),
+        }),
+    }
+}
+
+/// The statements of lines of a text of this grammar, numbered from `first`; or the first line that breaks a rule, and the rule. There is
+/// room for so many statements from the beginning.
 fn read_lines(
     alloc: Global,
     grammar: Grammar,
     first: u32,
     octets: &[u8],
+    room: usize,
 ) -> Result<List<Statement<'_>>, Refused>
     requires { first + length octets.now ≤ 4194305 }
     ensures { IsRead grammar first octets.now result }
 {
-    let mut statements = List::new(alloc);
+    let mut statements = with_room(alloc, room)?;
     let is_plain = has_plain_lines(octets);
     let mut line = first;
     let mut rest = octets;
@@ -89,6 +109,14 @@ fn feeds_in(octets: &[u8]) -> usize
     feeds
 }
 
+/// The number of the line behind these, of which the first has this number.
+fn line_behind(first: u32, octets: &[u8]) -> u32
+    requires { first + length octets.now ≤ 4194305 }
+    ensures { result ≡ first + count_by is_feed octets.now }
+{
+    first + feeds_in(octets) as u32
+}
+
 /// What lines say, and behind it what later lines say; or the first refusal of the two.
 fn joined<'a>(
     said: Result<List<Statement<'a>>, Refused>,
@@ -115,26 +143,28 @@ fn read_parts<'a, R: Threads + Sync>(
     grammar: Grammar,
     first: u32,
     octets: &'a [u8],
+    room: usize,
 ) -> Result<List<Statement<'a>>, Refused>
     requires { first + length octets.now ≤ 4194305 }
     ensures { IsRead grammar first octets.now result }
 {
     if octets.len() <= LONGEST_PART {
-        return read_lines(alloc, grammar, first, octets);
+        return read_lines(alloc, grammar, first, octets, room);
     }
     let Some((front, back)) = halves(octets) else {
-        return read_lines(alloc, grammar, first, octets);
+        return read_lines(alloc, grammar, first, octets, room);
     };
+    let more = back.len() / SHORT_LINE;
     let (said, later) = join(
         rt,
         || -> Result<List<Statement<'_>>, Refused>
             requires { IsSync R.row × (first + length front.now ≤ 4194305) }
             ensures { IsRead grammar first front.entry.now result }
-        { read_parts(rt, alloc, grammar, first, front) },
+        { read_parts(rt, alloc, grammar, first, front, room) },
         || -> Result<List<Statement<'_>>, Refused>
             requires { IsSync R.row × (first + length front.now + length back.now ≤ 4194305) }
             ensures { IsRead grammar (first + count_by is_feed front.entry.now) back.entry.now result }
-        { read_parts(rt, alloc, grammar, first + feeds_in(front) as u32, back) },
+        { read_parts(rt, alloc, grammar, line_behind(first, front), back, more) },
     );
     joined(said, later)
 }
@@ -148,7 +178,7 @@ pub fn read_project(alloc: Global, octets: &[u8]) -> Result<Project<'_>, Refused
 {
     fits(octets)?;
     let grammar = grammar_of(octets);
-    match read_lines(alloc, grammar, 1, octets) {
+    match read_lines(alloc, grammar, 1, octets, 0) {
         Ok(statements) => Ok(Project { statements }),
         Err(refused) => Err(refused),
     }
@@ -165,7 +195,7 @@ pub fn read_project_in_threads<'a, R: Threads + Sync>(
 {
     fits(octets)?;
     let grammar = grammar_of(octets);
-    match read_parts(rt, alloc, grammar, 1, octets) {
+    match read_parts(rt, alloc, grammar, 1, octets, octets.len() / SHORT_LINE) {
         Ok(statements) => Ok(Project { statements }),
         Err(refused) => Err(refused),
     }

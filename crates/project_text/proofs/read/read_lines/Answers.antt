@@ -11,7 +11,7 @@ pub loop-text-preserved : goal.loop-text-preserved
 loop-text-preserved c = goes_on _ _ c.args.first c.args.octets.now c.loop-text.rest.now c.in-Some.text.now c.in-Some.after.now _ _ _ c.loop-text.invariant c.in-Some.ensures.first c.in-Some.ensures.less c.in_default-line_in.ensures.read (c.in_default-line_in.ensures.spelled c.loop-text.invariant.spelled)
 
 pub loop-text-init : goal.loop-text-init
-loop-text-init c = begins _ _ c.args.first c.args.octets.now _ c.new-statements.ensures c.requires c.has_plain_lines-is_plain.ensures.text
+loop-text-init c = begins _ _ c.args.first c.args.octets.now _ c.in_ok-statements.ensures.none c.requires c.has_plain_lines-is_plain.ensures.text
 
 pub returns-in-Err : goal.returns-in-Err
 returns-in-Err c =
