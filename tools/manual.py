@@ -13,7 +13,7 @@ FILES = [
     ("/usr/share/doc/knx/formats.md", "the texts, the frames, the refusals and the statuses"),
     ("/usr/share/doc/knx/built", "the commit, the toolchain and the checksum of the program"),
     ("/usr/share/doc/knx/examples", "projects, a catalogue and scripts"),
-    ("/usr/share/knx/tools", "scripts beside the program: from ETS and to it, to Home Assistant, what changed, which gateways there are, what devices tell, a run as a page"),
+    ("/usr/share/knx/tools", "scripts beside the program: from ETS and to it, to Home Assistant, what changed, which gateways there are, what devices tell and hold, a run as a page"),
 ]
 
 COMMAND = re.compile(r"^\| `(knx (\w+)([^`]*))` \| (.*) \|$", re.MULTILINE)

@@ -8,7 +8,7 @@ import re
 import socket
 import time
 
-from texts import Refused
+from texts import Refused, Usage, device_of
 
 ADDRESS = re.compile(r"([0-9]{1,3})\.([0-9]{1,3})\.([0-9]{1,3})\.([0-9]{1,3})(?::([0-9]{1,5}))?", re.ASCII)
 PORT = 3671
@@ -32,6 +32,21 @@ L_DATA_REQ = bytes.fromhex("1100BC600000")
 T_CONNECT, T_DISCONNECT = b"\x80", b"\x81"
 T_ACK, NUMBERED = 0xC2, 0x40
 
+# What a device of System B on twisted pair tells as its mask version, and two properties of its tables' objects with the states of the first.
+SYSTEM_B = bytes.fromhex("07B0")
+LOAD_STATE, TABLE_REFERENCE = 5, 7
+STATES = ["Unloaded", "Loaded", "Loading", "Error", "Unloading", "LoadCompleting"]
+LOADED = b"\x01"
+
+# Services of a device, each as two octets without the bits of the transport layer; a property's first element, and no more, is read.
+DESCRIPTOR_READ, DESCRIPTOR_RESPONSE = b"\x03\x00", b"\x03\x40"
+PROPERTY_READ, PROPERTY_RESPONSE, FIRST = b"\x03\xd5", b"\x03\xd6", b"\x10\x01"
+MEMORY_READ, MEMORY_RESPONSE = 0x0200, 0x0240
+
+# How many octets of memory are read at once, so that the answer is a standard frame; and where memory ends.
+PIECE = 12
+END_OF_MEMORY = 0x10000
+
 # Waits in seconds, as the standard has them; the last is for a gateway that is left.
 CONNECT_WAIT, STATE_WAIT, ACK_WAIT, CON_WAIT = 10, 10, 1, 3
 T_ACK_WAIT, ANSWER_WAIT = 3, 6
@@ -47,6 +62,10 @@ MOST_FRAMES = 64
 Frame = collections.namedtuple("Frame", "code has_error is_group source destination tpdu")
 
 
+def octets_text(octets):
+    return octets.hex().upper() or "-"
+
+
 class Silent(Exception):
     """Why a device told no more."""
 
@@ -56,6 +75,19 @@ def address_of(word):
     match = ADDRESS.fullmatch(word)
     *parts, port = (int(part or PORT) for part in match.groups()) if match else (256, 0)
     return (".".join(str(part) for part in parts), port) if max(parts) <= 255 and 1 <= port <= 65535 else None
+
+
+def gateway_and_devices(words):
+    """The gateway's address and the devices that the words of a call name: ADDR IA [IA ..]."""
+    if len(words) < 2 or any(word.startswith("-") for word in words):
+        raise Usage
+    address, devices = address_of(words[0]), [device_of(word) for word in words[1:]]
+    if not address:
+        raise Refused(f"{words[0]} is no address of a gateway, as 192.168.1.20 or 192.168.1.20:3671")
+    for word, device in zip(words[1:], devices):
+        if not device:
+            raise Refused(f"{word} is no individual address of a device")
+    return address, devices
 
 
 def endpoint_text(endpoint):
@@ -261,6 +293,34 @@ class Connection:
         if not answer:
             raise Silent("it acknowledged a service and didn't answer" if is_acknowledged else "it acknowledged no service")
         return answer
+
+    def mask(self):
+        """The mask version."""
+        answer = self.ask(DESCRIPTOR_READ)
+        if answer[:2] != DESCRIPTOR_RESPONSE:
+            raise Silent(f"it answered a read of its descriptor by {octets_text(answer)}")
+        return answer[2:]
+
+    def property(self, index, number):
+        """The octets of a property's first element; none where the device doesn't tell it."""
+        asked = bytes([index, number])
+        answer = self.ask(PROPERTY_READ + asked + FIRST)
+        if answer[:4] != PROPERTY_RESPONSE + asked or len(answer) < 6:
+            raise Silent(f"it answered a read of property {number} of object {index} by {octets_text(answer)}")
+        return answer[6:] if answer[4] >> 4 else b""
+
+    def memory(self, place, count):
+        """So many octets of memory."""
+        octets = b""
+        while len(octets) < count:
+            start, size = place + len(octets), min(PIECE, count - len(octets))
+            if start + size > END_OF_MEMORY:
+                raise Silent(f"memory at {place:08X} lies beyond what is read")
+            answer = self.ask(two(MEMORY_READ | size) + two(start))
+            if answer != two(MEMORY_RESPONSE | size) + two(start) + answer[4:] or len(answer) != 4 + size:
+                raise Silent(f"it answered a read of {size} octets at {start:04X} by {octets_text(answer)}")
+            octets += answer[4:]
+        return octets
 
     def answer(self):
         """The device's next answer, if it comes, and whether the service was acknowledged. An answer that came before is acknowledged again."""

@@ -15,12 +15,13 @@ PLACES = {1: 0x4000, 2: 0x5000, 3: 0x7000, 4: 0x8000}
 class Device:
     """A device: its mask version, its properties by object and number, and what it does otherwise than most."""
 
-    def __init__(self, mask=0x07B0, places=None, states=(1, 1, 1, 1), properties=None, closes_at=None, is_secure=False, loses=()):
+    def __init__(self, mask=0x07B0, places=None, states=(1, 1, 1, 1), properties=None, memory=None, closes_at=None, is_secure=False, loses=()):
         self.mask, self.closes_at, self.is_secure, self.loses = mask, closes_at, is_secure, set(loses)
         self.properties = {(0, 56): b"\x00\x0f", (0, 12): b"\x00\xfa", (0, 11): bytes.fromhex("00FA00000001"), (4, 13): bytes.fromhex("00FA123410")}
         for index, place in (PLACES | (places or {})).items():
             self.properties |= {(index, 5): bytes([states[index - 1]]), (index, 7): place.to_bytes(4, "big") if isinstance(place, int) else place}
         self.properties |= properties or {}
+        self.memory = memory or {}
         self.connected, self.expected, self.number, self.taken = False, 0, 0, 0
 
     def take(self, tpdu):
@@ -51,10 +52,18 @@ class Device:
     def answer(self, asked):
         if asked == b"\x03\x00":
             return b"\x03\x40" + self.mask.to_bytes(2, "big")
+        if asked[0] == 2 and asked[1] < 0x40 and len(asked) == 4:
+            return self.memory_response(asked[1], int.from_bytes(asked[2:], "big"))
         if asked[:2] != b"\x03\xd5" or asked[4:] != b"\x10\x01":
             raise AssertionError(f"asked for {asked.hex()}")
         value = self.properties.get((asked[2], asked[3]), b"")
         return value if value is None else b"\x03\xd6" + asked[2:4] + (b"\x10\x01" if value else b"\x00\x01") + value
+
+
+    def memory_response(self, count, place):
+        """The octets of one segment, of which each is named by its start; or none, with count 0."""
+        found = next((octets[place - start : place - start + count] for start, octets in self.memory.items() if start <= place and place + count <= start + len(octets)), b"")
+        return bytes([2, 0x40 | len(found)]) + place.to_bytes(2, "big") + found
 
 
 class Gateway(threading.Thread):

@@ -61,7 +61,7 @@ class Probe(ToolTest):
         """The tunnel and each connection are ended, and nothing but reads was sent."""
         self.gateway.end()
         self.assertEqual((self.gateway.channel, [device.connected for device in self.gateway.devices.values()], self.gateway.fault), (None, [False] * len(self.gateway.devices), None))
-        self.assertEqual([tpdu for _, tpdu in self.gateway.puts if tpdu[0] & 0xC0 == 0x40 and tpdu[1] not in (0x00, 0xD5)], [])
+        self.assertEqual([tpdu for _, tpdu in self.gateway.puts if tpdu[0] & 0xC0 == 0x40 and (tpdu[0] & 3, tpdu[1]) not in ((3, 0x00), (3, 0xD5))], [])
 
     def test_a_device_that_fits(self):
         self.served(Device())
