@@ -1,9 +1,6 @@
-use Rattle.std.proofs.Common.{◌≡◌, Option, ap, refl, ◌∙◌}
-use Rattle.std.specs.Option.{option_or, option_map}
-use Rattle.knx_model.specs.Rules.{has_group, linked_in}
-use Rattle.knx_model.specs.declared.project.What.TheVariants.{Link as LinkStated}
-use Rattle.project_check.specs.Knowing.{known_at}
-use Rattle.project_check.specs.declared.known.KnownObject.{KnownObject}
+use Rattle.std.proofs.Common.{ap, refl, ◌∙◌}
+use Rattle.std.specs.Option.{option_or}
+use Rattle.knx_model.specs.Rules.{has_group}
 use Rattle.project_check.proofs.Sized.{linked_known}
 use Rattle.project_check.proofs.declared.add_first_object.Goals as goal
 
