@@ -4,14 +4,12 @@
 use Rattle.std.specs.Prelude.{◌≡◌, ℕ, suc, ◌<◌, ◌/◌, Bool, false, not, ◌&&◌, ◌==◌, List, [], ◌∷◌, length, reverse, if◌then◌else◌, Option, Some, None}
 use Rattle.std.specs.List.{find}
 use Rattle.knx_model.specs.declared.address.IndAddr.{IndAddr}
-use Rattle.knx_model.specs.declared.frames.ip.IpFrame.{IpFrame}
-use Rattle.knx_model.specs.declared.frames.ip.IpFrame.TheVariants.{ConnectResponse}
 use Rattle.line_model.specs.declared.fault.HubFault.{HubFault}
 use Rattle.line_model.specs.declared.fault.HubFault.TheVariants.{NoMemory, LinkFailed, GatewayRefused, Flooded, WrongLine}
 use Rattle.line_model.specs.declared.fault.Try.{Try}
 use Rattle.line_model.specs.declared.fault.Try.TheVariants.{Status, NoAnswer}
 use Rattle.line_model.specs.declared.log.LogEntry.{LogEntry}
-use Rattle.line_model.specs.Reading.{state_response_in}
+use Rattle.line_model.specs.Reading.{state_response_in, tunnel_told}
 use Rattle.line_model.specs.Record.{Entry, got_in, is_got}
 use Rattle.line_model.specs.ChannelLost.{answers_beat, beats, has_lapsed}
 use Rattle.line_model.specs.ClientView.{ClientChannel, Sought, RefusedBy, Unanswered, Open, channel}
@@ -51,10 +49,6 @@ abbrev pub flood : ℕ
 flood = 16777216
 
 -- ---- the tunnel's address that the first channel's response told
-
-abbrev pub tunnel_told : Option IpFrame → Option IndAddr
-tunnel_told (Some (ConnectResponse c status tunnel)) = tunnel
-tunnel_told _ = None
 
 abbrev pub opens : ClientChannel → ClientChannel → Entry → Option IndAddr
 opens (Sought since) (Open c l) x = tunnel_told (got_in x.what)
