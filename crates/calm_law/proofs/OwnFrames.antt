@@ -1,11 +1,11 @@
 -- On the line no indication to another device than the tunnel comes to the client.
-use Rattle.std.proofs.Common.{◌≡◌, ℕ, List, [], ◌∷◌, Option, Some, None, subst}
+use Rattle.std.proofs.Common.{ℕ, List, [], ◌∷◌, Option, Some, None, subst}
 use Rattle.knx_model.specs.declared.address.IndAddr.{IndAddr}
 use Rattle.line_model.specs.ClientView.{channel}
 use Rattle.line_model.specs.Fresh.{IsFresh}
 use Rattle.line_model.specs.Gateway.{Channel, Request}
 use Rattle.line_model.specs.Legal.{IsLegal}
-use Rattle.line_model.specs.Record.{Entry, record_of, tunnel_record}
+use Rattle.line_model.specs.Record.{Entry, record_of}
 use Rattle.line_model.specs.Tunnel as tunnel
 use Rattle.line_model.specs.Tunnel.{Tunnel, Commissions}
 use Rattle.line_model.specs.World.{World, Event, me, tunnel_events, replay}

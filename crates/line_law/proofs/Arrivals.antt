@@ -1,13 +1,13 @@
 -- What a run of the line brings to the client is the tunnel's own: the open channel's address is the tunnel's, and each indication to one device that the
 -- gateway put has it as its destination.
-use Rattle.std.proofs.Common.{◌≡◌, ℕ, List, [], ◌∷◌, not, Option, Some, None, refl, sym, ◌∙◌, ap, subst, inl, inr}
+use Rattle.std.proofs.Common.{◌≡◌, ℕ, List, [], ◌∷◌, false, not, Option, Some, None, refl, sym, ◌∙◌, ap, subst, inl, inr}
 use Rattle.knx_model.specs.declared.address.IndAddr.{IndAddr}
 use Rattle.knx_model.specs.declared.frames.cemi.Ldata.{Ldata}
 use Rattle.line_model.specs.ClientView.{is_stray, channel}
 use Rattle.line_model.specs.Fresh.{IsFresh, IsAtRest}
 use Rattle.line_model.specs.Legal.{IsLegal, MayHappen}
-use Rattle.line_model.specs.Record.{Entry, item_at, item_of, noted, record_of}
-use Rattle.line_model.specs.Tunnel.{Tunnel, Commissions}
+use Rattle.line_model.specs.Record.{Entry, item_at, noted, record_of}
+use Rattle.line_model.specs.Tunnel.{Commissions}
 use Rattle.line_model.specs.World.{World, Event, AtGateway, Comes as Heard, IsLost, Send, From, Renew, Up, UpRefused, Down, LoseUp, LoseDown, Bus, BusTorn, BusWorn, BusAgain, DevSend, DevRepeat, DevClose, GwAgain, GwRepeat, GwClose, Cut, On, Pass, me, now, next_frame, waiting_at, repeat_at, is_confirmed, carried, heard, tunnel_event, step, replay}
 use Rattle.line_model.proofs.Strays.{group_stray, own_stray}
 use Rattle.tunnel_law.proofs.Inside.{Every}

@@ -1,6 +1,6 @@
 -- What devices send to one receiver they send to the tunnel: whom they answer is the one whose frames they take, and the client's frames alone are for
 -- one device.
-use Rattle.std.proofs.Common.{◌≡◌, ℕ, ◌⊎◌, List, [], ◌∷◌, ◌++◌, Bool, true, false, cond, Option, Some, None, refl, sym, ◌∙◌, ap, subst, inl, inr, if◌then◌else◌}
+use Rattle.std.proofs.Common.{◌≡◌, ℕ, ◌⊎◌, List, [], ◌∷◌, Bool, true, false, cond, Option, Some, None, refl, sym, ◌∙◌, ap, subst, inl, inr, if◌then◌else◌}
 use Rattle.std.specs.Prelude.{◌==◌}
 use Rattle.knx_model.specs.declared.address.IndAddr.{IndAddr}
 use Rattle.knx_model.specs.declared.config.Image.{Image}
@@ -218,7 +218,7 @@ module _ (own : IndAddr) where
   one_home t outcome (Some f) devices of h = changed_home f.destination (λ d. takes d f t outcome) devices (λ d q. gets d f t outcome of q) h
 
   others_home : (t : ℕ) (left_out : List ℕ) (o : Option Ldata) (devices : Devices) → AllHome devices → AllHome (others_take t left_out o devices)
-  others_home t left_out None devices h b d e = h b d e
+  others_home t left_out None devices h = h
   others_home t left_out (Some f) devices h = by_group f.group refl where
     by_group : (g : Bool) → f.group ≡ g → AllHome (cond {A = Devices} g (all_take t left_out (Some f) devices) devices)
     by_group true e = all_home t left_out (Some f) devices (inl e) h

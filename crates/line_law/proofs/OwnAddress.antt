@@ -1,7 +1,7 @@
 -- What the gateway sends is the tunnel's own: a connect response tells its address or none, whatever is lost, repeated or late; and an indication to one
 -- device has that address as its destination, where those that come of the bus have it.
-use Rattle.std.proofs.Common.{◌≡◌, ◌≢◌, ℕ, ◌+◌, ◌*◌, ◌/◌, ◌%◌, List, [], ◌∷◌, ◌++◌, drop, Bool, true, false, cond, Option, Some, None, refl, sym, ◌∙◌, ap, subst, arith, if◌then◌else◌}
-use Rattle.std.specs.Prelude.{IfSome, slice_get, take, nat_le, ◌==◌, ◌&&◌}
+use Rattle.std.proofs.Common.{◌≡◌, ◌≢◌, ℕ, ◌+◌, ◌*◌, ◌/◌, ◌%◌, List, [], ◌∷◌, ◌++◌, drop, length, Bool, true, false, cond, Option, Some, None, refl, sym, ◌∙◌, ap, subst, arith, if◌then◌else◌}
+use Rattle.std.specs.Prelude.{IfSome, slice_get, slice_index, take, nat_le, ◌==◌, ◌&&◌}
 use Rattle.std.proofs.lemmas.Bool.{eqb-true}
 use Rattle.knx_model.specs.declared.address.IndAddr.{IndAddr}
 use Rattle.knx_model.specs.declared.frames.cemi.Ldata.{Ldata}
@@ -12,10 +12,10 @@ use Rattle.knx_model.specs.ApduReading.{where_it}
 use Rattle.knx_model.specs.Cemi.{Written as cemi_octets}
 use Rattle.knx_model.specs.KnxNetIp.{Written}
 use Rattle.line_model.specs.ActedOnce.{in_channel, IsPrefix}
-use Rattle.line_model.specs.ClientView.{ClientChannel, Fresh, Sought, RefusedBy, Unanswered, Open, Lost, own_address, is_stray, after_entry, after_fresh, after_sought, sought_got, goes_on, channel}
+use Rattle.line_model.specs.ClientView.{ClientChannel, Fresh, Sought, RefusedBy, Unanswered, Open, Lost, own_address, is_stray, after_entry, sought_got, goes_on, channel}
 use Rattle.line_model.specs.Gateway.{Gateway, Channel, Request, GatewayTook, drops, answers, number_of, next_number, gateway_took, took, connects, request_took, acts_on, hears, names, makes, closed, closed_if_open, acknowledged, settles, is_put, next_put}
 use Rattle.line_model.specs.Network.{Sent, changed_at, once_more, gone}
-use Rattle.line_model.specs.Reading.{datagram_in, ldata_in, ldata_of, tunnel_told}
+use Rattle.line_model.specs.Reading.{datagram_in, ldata_in, is_ldata, ldata_of, tunnel_told}
 use Rattle.line_model.specs.Record.{Item, Put, Renewed, Got, Quiet, Entry, entry, got, got_in, is_renewal, item_of, noted}
 use Rattle.line_model.specs.Tunnel.{Tunnel, TunnelEvent, Send, From, Renew, Up, UpRefused, Down, LoseUp, LoseDown, Carried, Heard, Repeat, Close, Pass, Elsewhere, Commissions, MayHappen, fresh, with_gateway, with_up, sends_down, sends_down_if, takes_frame, takes_sent, refuses, puts, puts_next, repeats, repeats_request, closes, after, step}
 use Rattle.tunnel_law.proofs.Inside.{Every, every_at, every_changed}
@@ -107,7 +107,10 @@ module _ (own : IndAddr) where
   -- a confirmation is no indication
   pub con_reaches : (f : Ldata) (error : Bool) → ReachesAs (record f { code = Con; error = error })
   unfolding ldata_in
-  con_reaches f error = stray_by _ _ (ldata_of Con _) refl
+  con_reaches f error =
+      let octets : List ℕ = cemi_octets (record f { code = Con; error = error }) in
+      let body : List ℕ = drop (2 + slice_index octets 1) octets in
+      stray_by (nat_le (10 + slice_index octets 1) (length octets)) (is_ldata body) (ldata_of Con body) refl
 
   abbrev pub RequestReaches : Option Request → Type 0
   RequestReaches None = Unit {0}
@@ -369,11 +372,11 @@ module _ (own : IndAddr) where
     none : (newer : List (List ℕ)) → [] ≡ newer ++ content ∷ older → ⊥
     none [] z = cc
     none (x ∷ newer) z = cc
-  put_reaches k (p ∷ l) newer older content h e = by_place (p.0 == k) newer e where
-    by_place : (b : Bool) (newer : List (List ℕ)) → ◌≡◌ {A = List (List ℕ)} (if b then p.1 ∷ in_channel k l else in_channel k l) (newer ++ content ∷ older) → Reaches content
-    by_place false newer z = put_reaches k l newer older content h.1 z
-    by_place true [] z = let same : p.1 ≡ content = cc in subst Reaches same h.0
-    by_place true (x ∷ newer) z = let rest : in_channel k l ≡ newer ++ content ∷ older = cc in put_reaches k l newer older content h.1 rest
+  put_reaches k (p ∷ l) newer older content h e = by_place (p.0 == k) newer (λ newer z. put_reaches k l newer older content h.1 z) e where
+    by_place : (b : Bool) (newer : List (List ℕ)) → ((newer : List (List ℕ)) → in_channel k l ≡ newer ++ content ∷ older → Reaches content) → ◌≡◌ {A = List (List ℕ)} (if b then p.1 ∷ in_channel k l else in_channel k l) (newer ++ content ∷ older) → Reaches content
+    by_place false newer rest z = rest newer z
+    by_place true [] rest z = let same : p.1 ≡ content = cc in subst Reaches same h.0
+    by_place true (x ∷ newer) rest z = rest newer (let more : in_channel k l ≡ newer ++ content ∷ older = cc in more)
 
   pub own_taken : (ch : ClientChannel) (c : ℕ) (l : List Entry) (content : List ℕ) → ch ≡ Open c l → KnowsOwn ch → Reaches content → is_stray (own_address l) (ldata_in content) ≡ false
   own_taken ch c l content e k h = let told : own_address l ≡ Some own = subst KnowsOwn e k in ap (λ a. is_stray a (ldata_in content)) told ∙ h

@@ -12,7 +12,7 @@ use Rattle.line_model.specs.ClientView.{ClientChannel, channel, after_entry}
 use Rattle.line_model.specs.ChannelLost.{answer_wait, has_lapsed}
 use Rattle.line_model.specs.Dropped.{is_dropped, drops_sought}
 use Rattle.line_model.specs.Dropped as drop
-use Rattle.line_model.specs.Faults.{tries, tunnel_told, opens, is_counted, datagrams_taken}
+use Rattle.line_model.specs.Faults.{tries, opens, is_counted, datagrams_taken}
 use Rattle.line_model.specs.Faults as fault
 use Rattle.line_model.specs.Renews.{owed}
 use Rattle.line_model.specs.ClientEnd.{ClientEnd, Idle, Seeking, Open, Leaving, JustLost, is_over}
