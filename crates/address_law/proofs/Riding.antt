@@ -282,10 +282,12 @@ module _ (wanted : IndAddr) (start : List UnitState) where
     rides_on none newest Renew calm can does = λ fresh. steps r w.units (entry Renewed t.now) (sym newest) (λ h. fresh) (does Renewed refl)
     rides_on none newest (Up age) calm can does = λ fly q h. h
     rides_on none newest (UpRefused age status) calm can does = absurd calm
-    rides_on none newest (Down age) calm can does = (λ item is.
-        subst (λ o. Steps (Now r w.units) (Now (noted o t.now r) w.units) (deed (channel r) (entry item t.now))) (sym is)
-        (steps r w.units (entry item t.now) (sym newest) (λ h. absurd (got_not (slice_get t.network.down age) item is h)) (does item is)),
-        none_strays (Now r w.units) (Now (noted (item_of t (tunnel.Down age)) t.now r) w.units) (channel r) t.gateway.channel none)
+    rides_on none newest (Down age) calm can does = (
+      λ item is.
+          subst (λ o. Steps (Now r w.units) (Now (noted o t.now r) w.units) (deed (channel r) (entry item t.now))) (sym is)
+          (steps r w.units (entry item t.now) (sym newest) (λ h. absurd (got_not (slice_get t.network.down age) item is h)) (does item is)),
+      none_strays (Now r w.units) (Now (noted (item_of t (tunnel.Down age)) t.now r) w.units) (channel r) t.gateway.channel none,
+    )
     rides_on none newest (LoseUp age) calm can does = absurd calm
     rides_on none newest (LoseDown age) calm can does = absurd calm
     rides_on none newest (Bus left_out) calm can does =

@@ -34,7 +34,7 @@ own_frames start events f l = let a : Arrives (me start) (replay start events) (
 pub all_own : (start : World) (events : List Event) → IsFresh start → IsLegal Commissions start events → AreOwn start.tunnel (tunnel_events start events)
 all_own start [] f l = tt
 all_own start (e ∷ past) f l = (
-    subst (λ (z : List Entry). NoStrays (channel z) (tunnel.replay start.tunnel (tunnel_events start past)).gateway.channel) (records start past)
-        (subst (λ (t : Tunnel). NoStrays (channel (record_of start past)) t.gateway.channel) (runs start past) (own_frames start past f l.1)),
-    all_own start past f l.1,
-  )
+  subst (λ (z : List Entry). NoStrays (channel z) (tunnel.replay start.tunnel (tunnel_events start past)).gateway.channel) (records start past)
+      (subst (λ (t : Tunnel). NoStrays (channel (record_of start past)) t.gateway.channel) (runs start past) (own_frames start past f l.1)),
+  all_own start past f l.1,
+)

@@ -156,7 +156,7 @@ module _ (own : IndAddr) where
       let from : sender f ≡ own = sent_alone f e of in
       let g : AnswersHome (taken_alone d f t outcome)
       = acting (record d { connection = device_after d.connection (sender f) t (connection_took d f) }) (sender f) t outcome (connection_took d f) from
-          (record { partner = taking d.connection (sender f) t (connection_took d f) from h.partner; frames = h.frames; last = h.last }) in
+      (record { partner = taking d.connection (sender f) t (connection_took d f) from h.partner; frames = h.frames; last = h.last }) in
       record { partner = g.partner; frames = g.frames; last = of }
 
   ended : (d : DeviceState) (outcome : Outcome) → AnswersHome d → AnswersHome (after_outcome d outcome)

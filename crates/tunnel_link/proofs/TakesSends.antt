@@ -90,7 +90,6 @@ module _ (k : Known) (r : List Entry) (f : FitsRecord k r) (right : IsRight k r)
         got = (record { got = refl; drops = t.drops ∙ rw m refl }, opens_nothing k r f right calm octets frame now is over (took.Cemi cemi ack) counted t cs (λ h. absurd (cc)), record { octets = cemi; taken = did; reads = m });
         does = λ e l w n a. (record { newer = []; m = e; older = l; all = refl; is = record { octets = cemi; takes = w ∙ did; reads = m; then = n }; newer_nothing = tt; older_nothing = a }, refl);
       })
-
   -- an indication to another device
   row_frame cemi ack ldata true m c own counted q t cs =
       let did : (deed (channel r) (x k r f right calm octets frame now is over) ≡ Nothing) = taken_deed k.tunnel k.put (channel r) (x k r f right calm octets frame now is over) cemi f.counts (took_is cemi ack counted t cs) ∙ rw (m, own) refl in
