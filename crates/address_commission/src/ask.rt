@@ -1,6 +1,7 @@
 //! One request, and its wait.
 
-ghost use Rattle.std.specs.Prelude.{◌≡◌, ◌≤◌, IfErr, OnOk, None};
+ghost use Rattle.std.specs.Prelude.{◌≡◌, IfErr, OnOk, None};
+ghost use Rattle.line_model.specs.Polled.{NeverFall};
 ghost use Rattle.address_commission.specs.Calls.{AsksGoes, TalkFails};
 ghost use Rattle.address_talk.specs.Ends.{FailsBy};
 ghost use Rattle.address_commission.specs.Going.{AsksOne, Going};
@@ -37,7 +38,7 @@ pub fn ask<R: Wait, L: Link>(
     ensures out { OnOk result (WhereExact (IsOut wanted ear.new) (L.story tunnel.new.link)) }
     ensures stands { OnOk result (tunnel.new.known.fault ≡ None) }
     ensures cause { IfErr result (λ fault. FailsBy fault (L.faults tunnel.old.link) (L.faults tunnel.new.link)) }
-    ensures count { L.faults tunnel.old.link ≤ L.faults tunnel.new.link }
+    ensures count { NeverFall (L.faults tunnel.old.link) (L.faults tunnel.new.link) }
     ensures script { L.script tunnel.new.link ≡ L.script tunnel.old.link }
 {
     put(tunnel, ear, wanted, asked)?;
@@ -56,7 +57,7 @@ fn put<L: Link>(
     ensures goes { AsksGoes wanted asked ear.old ear.new (L.story tunnel.old.link) (L.story tunnel.new.link) result }
     ensures stands { OnOk result (tunnel.new.known.fault ≡ None) }
     ensures cause { IfErr result (λ fault. FailsBy fault (L.faults tunnel.old.link) (L.faults tunnel.new.link)) }
-    ensures count { L.faults tunnel.old.link ≤ L.faults tunnel.new.link }
+    ensures count { NeverFall (L.faults tunnel.old.link) (L.faults tunnel.new.link) }
     ensures script { L.script tunnel.new.link ≡ L.script tunnel.old.link }
 {
     let cemi = request_of(wanted, asked);

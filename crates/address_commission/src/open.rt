@@ -1,8 +1,9 @@
 //! Opening the channel.
 
-ghost use Rattle.std.specs.Prelude.{◌≡◌, ◌≤◌, IfErr, OnOk, None};
+ghost use Rattle.std.specs.Prelude.{◌≡◌, IfErr, OnOk, None};
 ghost use Rattle.line_model.specs.Asks.{HasPlace};
 ghost use Rattle.line_model.specs.ClientView.{channel};
+ghost use Rattle.line_model.specs.Polled.{NeverFall};
 ghost use Rattle.line_model.specs.Record.{entries};
 ghost use Rattle.tunnel_link.specs.Adds.{HasActed};
 ghost use Rattle.address_talk.specs.Ends.{FailsBy};
@@ -30,7 +31,7 @@ pub fn open<R: Wait, L: Link>(
     ensures place { OnOk result (WhereExact (λ places. HasPlace (channel (entries places))) (L.story tunnel.new.link)) }
     ensures stands { OnOk result (tunnel.new.known.fault ≡ None) }
     ensures cause { IfErr result (λ fault. FailsBy fault (L.faults tunnel.old.link) (L.faults tunnel.new.link)) }
-    ensures count { L.faults tunnel.old.link ≤ L.faults tunnel.new.link }
+    ensures count { NeverFall (L.faults tunnel.old.link) (L.faults tunnel.new.link) }
     ensures script { L.script tunnel.new.link ≡ L.script tunnel.old.link }
 {
     for _ in rt.forever() {
@@ -51,7 +52,7 @@ fn seek<L: Link>(tunnel: &mut Tunnel<L>) -> Result<(), AssignFault>
     ensures acted { OnOk result (HasActed tunnel.old.known (L.story tunnel.old.link) → HasActed tunnel.new.known (L.story tunnel.new.link)) }
     ensures stands { OnOk result (tunnel.new.known.fault ≡ None) }
     ensures cause { IfErr result (λ fault. FailsBy fault (L.faults tunnel.old.link) (L.faults tunnel.new.link)) }
-    ensures count { L.faults tunnel.old.link ≤ L.faults tunnel.new.link }
+    ensures count { NeverFall (L.faults tunnel.old.link) (L.faults tunnel.new.link) }
     ensures script { L.script tunnel.new.link ≡ L.script tunnel.old.link }
 {
     let sought = tunnel.seek();

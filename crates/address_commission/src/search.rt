@@ -1,7 +1,8 @@
 //! The search for the units in programming mode.
 
-ghost use Rattle.std.specs.Prelude.{◌≡◌, ◌≤◌, IfErr, OnOk, None, false, true};
+ghost use Rattle.std.specs.Prelude.{◌≡◌, IfErr, OnOk, None, false, true};
 ghost use Rattle.line_model.specs.Moments.{moments};
+ghost use Rattle.line_model.specs.Polled.{NeverFall};
 ghost use Rattle.address_talk.specs.Ends.{FailsBy};
 ghost use Rattle.address_commission.specs.Calls.{TalkFails};
 ghost use Rattle.address_commission.specs.Listening.{Begins, IsOut, Listens, SearchedSo};
@@ -32,7 +33,7 @@ pub fn search<R: Wait, L: Link>(
     ensures fails { TalkFails wanted (L.story tunnel.new.link) result }
     ensures stands { OnOk result (tunnel.new.known.fault ≡ None) }
     ensures cause { IfErr result (λ fault. FailsBy fault (L.faults tunnel.old.link) (L.faults tunnel.new.link)) }
-    ensures count { L.faults tunnel.old.link ≤ L.faults tunnel.new.link }
+    ensures count { NeverFall (L.faults tunnel.old.link) (L.faults tunnel.new.link) }
     ensures script { L.script tunnel.new.link ≡ L.script tunnel.old.link }
 {
     ask(rt, tunnel, ear, wanted, Asked::Read)?;

@@ -1,6 +1,7 @@
 //! What is due, and one poll.
 
-ghost use Rattle.std.specs.Prelude.{◌≡◌, ◌<◌, ◌≤◌, IfErr, OnOk, None};
+ghost use Rattle.std.specs.Prelude.{◌≡◌, ◌<◌, IfErr, OnOk, None};
+ghost use Rattle.line_model.specs.Polled.{NeverFall};
 ghost use Rattle.knx_model.specs.declared.address.IndAddr.{IndAddr as Address};
 ghost use Rattle.tunnel_link.specs.Adds.{HasActed};
 ghost use Rattle.address_commission.specs.Calls.{EndsFor, TalkGoes};
@@ -28,7 +29,7 @@ pub fn act<L: Link>(tunnel: &mut Tunnel<L>) -> Result<(), AssignFault>
     ensures acted { OnOk result (HasActed tunnel.new.known (L.story tunnel.new.link)) }
     ensures stands { OnOk result (tunnel.new.known.fault ≡ None) }
     ensures cause { IfErr result (λ fault. FailsBy fault (L.faults tunnel.old.link) (L.faults tunnel.new.link)) }
-    ensures count { L.faults tunnel.old.link ≤ L.faults tunnel.new.link }
+    ensures count { NeverFall (L.faults tunnel.old.link) (L.faults tunnel.new.link) }
     ensures script { L.script tunnel.new.link ≡ L.script tunnel.old.link }
 {
     let acted = tunnel.act();
@@ -60,7 +61,7 @@ pub fn poll<L: Link>(
     ensures same { Going SameRounds (L.story tunnel.old.link) (L.story tunnel.new.link) }
     ensures stands { OnOk result (tunnel.new.known.fault ≡ None) }
     ensures cause { IfErr result (λ fault. FailsBy fault (L.faults tunnel.old.link) (L.faults tunnel.new.link)) }
-    ensures count { L.faults tunnel.old.link ≤ L.faults tunnel.new.link }
+    ensures count { NeverFall (L.faults tunnel.old.link) (L.faults tunnel.new.link) }
     ensures script { L.script tunnel.new.link ≡ L.script tunnel.old.link }
 {
     let polled = tunnel.poll(longest_ms);

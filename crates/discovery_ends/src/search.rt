@@ -3,7 +3,7 @@
 ghost use Rattle.std.specs.Prelude.{◌≡◌, ◌≤◌, ◌+◌, ◌↔◌, ℕ, IfOk, IsTrue, List, OnErr, Some, [], length};
 ghost use Rattle.discovery.specs.Discovery.{Written};
 ghost use Rattle.discovery.specs.Finding.{request_of};
-ghost use Rattle.line_model.specs.Polled.{FailsWhere};
+ghost use Rattle.line_model.specs.Polled.{FailsWhere, NeverFall};
 ghost use Rattle.line_model.specs.Record.{Entry};
 ghost use Rattle.discovery_ends.specs.Going.{AgainSo, RoundSo};
 ghost use Rattle.discovery_ends.specs.Searching.{Searches, Takes, exact_record_in, most_datagrams};
@@ -31,7 +31,7 @@ pub fn find<L: Link>(alloc: Global, link: &mut L, inquiry: Inquiry) -> Result<Fi
     ensures searches { IfOk result (λ s. (s.finder.inquiry ≡ inquiry) × Searches inquiry (L.story link.old) (L.story link.new) s.finder.found s.ended) }
     ensures cause { IfOk result (λ s. FailsWhere s.ended (L.faults link.old) (L.faults link.new)) }
     ensures unsent { OnErr result (link.new ≡ link.old) }
-    ensures count { L.faults link.old ≤ L.faults link.new }
+    ensures count { NeverFall (L.faults link.old) (L.faults link.new) }
     ensures time { L.clock link.old ≤ L.clock link.new }
     ensures events { L.place link.old ≤ L.place link.new }
     ensures script { L.script link.new ≡ L.script link.old }
@@ -46,7 +46,7 @@ pub(crate) fn run<L: Link>(link: &mut L, finder: &mut Finder) -> Result<(), Link
     ensures so { finder.old.found ≡ [] → Searches finder.old.inquiry (L.story link.old) (L.story link.new) finder.new.found result }
     ensures inquiry { finder.new.inquiry ≡ finder.old.inquiry }
     ensures cause { FailsWhere result (L.faults link.old) (L.faults link.new) }
-    ensures count { L.faults link.old ≤ L.faults link.new }
+    ensures count { NeverFall (L.faults link.old) (L.faults link.new) }
     ensures time { L.clock link.old ≤ L.clock link.new }
     ensures events { L.place link.old ≤ L.place link.new }
     ensures script { L.script link.new ≡ L.script link.old }
@@ -63,7 +63,7 @@ fn again<L: Link>(link: &mut L, finder: &mut Finder, left: u32) -> Result<(), Li
     ensures so { AgainSo result finder.old.inquiry left (L.story link.old) (L.story link.new) finder.old.found finder.new.found }
     ensures inquiry { finder.new.inquiry ≡ finder.old.inquiry }
     ensures cause { FailsWhere result (L.faults link.old) (L.faults link.new) }
-    ensures count { L.faults link.old ≤ L.faults link.new }
+    ensures count { NeverFall (L.faults link.old) (L.faults link.new) }
     ensures time { L.clock link.old ≤ L.clock link.new }
     ensures events { L.place link.old ≤ L.place link.new }
     ensures script { L.script link.new ≡ L.script link.old }
@@ -82,7 +82,7 @@ fn round<L: Link>(link: &mut L, finder: &mut Finder, most: u32) -> Result<Listen
     ensures so { (r : List Entry) (got : List (List ℕ)) → exact_record_in (L.story link.old) ≡ Some r → Takes finder.old.inquiry got finder.old.found → length got + most ≡ most_datagrams → RoundSo result finder.old.inquiry r got (L.story link.new) finder.old.found finder.new.found }
     ensures inquiry { finder.new.inquiry ≡ finder.old.inquiry }
     ensures cause { FailsWhere result (L.faults link.old) (L.faults link.new) }
-    ensures count { L.faults link.old ≤ L.faults link.new }
+    ensures count { NeverFall (L.faults link.old) (L.faults link.new) }
     ensures time { L.clock link.old ≤ L.clock link.new }
     ensures events { L.place link.old ≤ L.place link.new }
     ensures script { L.script link.new ≡ L.script link.old }

@@ -19,3 +19,4 @@ pub mod Deadlines
 pub mod UnderWay
 pub mod Entries
 pub mod Moments
+pub mod Counted

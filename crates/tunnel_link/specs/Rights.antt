@@ -9,6 +9,7 @@ use Rattle.line_model.specs.declared.fault.HubFault.TheVariants.{NoMemory, LinkF
 use Rattle.line_model.specs.declared.fault.Try.{Try}
 use Rattle.line_model.specs.declared.outside.link.LinkFault.{LinkFault}
 use Rattle.line_model.specs.declared.outside.link.LinkFault.TheVariants as link
+use Rattle.line_model.specs.declared.outside.link_counts.LinkCounts.{LinkCounts}
 use Rattle.line_model.specs.Record.{Entry, Placed, entries}
 use Rattle.line_model.specs.LinkStory.{Story, places_in, newest_time}
 use Rattle.line_model.specs.ClientView as seen
@@ -85,10 +86,10 @@ abbrev pub fault_by : LinkFault → HubFault
 fault_by (link.NoMemory want) = NoMemory want
 fault_by link.Failed = LinkFailed
 
--- that the link failed is told only where its count of faults rose
-abbrev pub FailsWhere : HubFault → ℕ → ℕ → Type 0
-FailsWhere (NoMemory want) old new = Unit {0}
-FailsWhere LinkFailed old new = Rose old new
+-- that the link failed, or had no memory, is told only where its count of that rose
+abbrev pub FailsWhere : HubFault → LinkCounts → LinkCounts → Type 0
+FailsWhere (NoMemory want) old new = Rose old.wanting new.wanting
+FailsWhere LinkFailed old new = Rose old.failed new.failed
 FailsWhere (GatewayRefused three) old new = Unit {0}
 FailsWhere Flooded old new = Unit {0}
 FailsWhere (WrongLine device tunnel) old new = Unit {0}

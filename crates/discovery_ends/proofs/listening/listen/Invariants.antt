@@ -1,4 +1,5 @@
 use Rattle.std.proofs.Common.{◌≡◌, ℕ, ◌+◌, ◌≤◌, List, length}
+use Rattle.line_model.specs.Polled.{NeverFall}
 use Rattle.line_model.specs.Record.{Entry}
 use Rattle.discovery_ends.specs.Searching.{most_datagrams, Takes}
 use Rattle.discovery_ends.specs.Going.{Awake, Goes}
@@ -9,7 +10,7 @@ invariant-loop-link g l = record {
   so : (r : List Entry) (got : List (List ℕ)) → Awake (g.L.Link.story l.fn.link) r → Takes l.fn.finder.inquiry got l.fn.finder.found → length got + l.fn.most ≡ most_datagrams
       → Goes l.fn.finder.inquiry r got (g.L.Link.story l.link) l.finder.found l.left;
   inquiry : l.finder.inquiry ≡ l.fn.finder.inquiry;
-  count : g.L.Link.faults l.fn.link ≤ g.L.Link.faults l.link;
+  count : NeverFall (g.L.Link.faults l.fn.link) (g.L.Link.faults l.link);
   time : g.L.Link.clock l.fn.link ≤ g.L.Link.clock l.link;
   events : g.L.Link.place l.fn.link ≤ g.L.Link.place l.link;
   script : g.L.Link.script l.link ≡ g.L.Link.script l.fn.link;
