@@ -78,7 +78,11 @@ fn given_up<L: Link, W: Watcher>(site: Site<L, W>) -> (L, W)
     ensures watcher { W.watch result.1 ≡ site.watching.watch }
     ensures watches { IsWatchedAt L.story site.hub site.hub.log (W.watch site.watched.value) site.watching }
 {
-    let Parts { hub, feed: _, watching } = site.apart();
+    let Parts {
+        hub,
+        feed: _,
+        watching,
+    } = site.apart();
     let HubEnd { link, .. } = hub.close();
     (link, watching.into_watcher())
 }

@@ -25,8 +25,10 @@ use Rattle.knx_model.specs.declared.address.IndAddr.{IndAddr}
 use Rattle.knx_model.specs.Outside.{FilesNow, Rose, one_more}
 use Rattle.line_model.specs.Dialled.{Address, DialerNow, Tells}
 use Rattle.line_model.specs.LinkStory.{Story}
+use Rattle.line_model.specs.Polled.{none_failed}
 use Rattle.line_model.specs.Record.{entries}
 use Rattle.line_model.specs.Renews.{AcknowledgesRightly}
+use Rattle.line_model.specs.declared.outside.link_counts.LinkCounts.{LinkCounts}
 use Rattle.tunnel_link.specs.Rights.{WhereTold}
 use Rattle.call_parts.specs.Ending.{Is, StopsFor, report_in, wanting}
 use Rattle.call_parts.specs.Input.{IsRead, OnlyRose, failed, fault_in, first_some, octets_of}
@@ -155,22 +157,22 @@ units_give words reading before after end h = does_by (after ≡ before) (λ tex
 
 -- ---- what was given, by what the link told
 
-pub over_of : (wanted : IndAddr) (came : Outcome) (before faults : ℕ) (link : Story) → before ≡ 0 → WhereExact (EndsSo wanted came) link → WhereTold (λ places. AcknowledgesRightly (entries places)) link
-    → IfOk came (λ assigned. ¬ Rose before faults → WhereExact (Leaves wanted assigned) link) → IfErr came (λ fault. FailsBy fault before faults) → GivesOver wanted came faults link
+pub over_of : (wanted : IndAddr) (came : Outcome) (before faults : LinkCounts) (link : Story) → before ≡ none_failed → WhereExact (EndsSo wanted came) link → WhereTold (λ places. AcknowledgesRightly (entries places)) link
+    → IfOk came (λ assigned. ¬ Rose before.failed faults.failed → WhereExact (Leaves wanted assigned) link) → IfErr came (λ fault. FailsBy fault before faults) → GivesOver wanted came faults link
 over_of wanted came before faults link none ended acknowledges leaves cause = record {
   ends = ended;
   acknowledges = acknowledges;
-  leaves = subst (λ (n : ℕ). IfOk came (λ assigned. ¬ Rose n faults → WhereExact (Leaves wanted assigned) link)) none leaves;
-  cause = subst (λ (n : ℕ). IfErr came (λ fault. FailsBy fault n faults)) none cause;
+  leaves = subst (λ (n : LinkCounts). IfOk came (λ assigned. ¬ Rose n.failed faults.failed → WhereExact (Leaves wanted assigned) link)) none leaves;
+  cause = subst (λ (n : LinkCounts). IfErr came (λ fault. FailsBy fault n faults)) none cause;
 }
 
 -- ---- over a dialled link
 
-pub given_dialled : (words : AssignWords) (before after : DialerNow) (since dials : ℕ) (given : Option Address) (end : AssignEnd) → before.faults ≤ since → Tells words.at.host words.at.port given → dials ≡ one_more before.dials → after.given ≡ given → after.dials ≡ dials
-    → TellsOutcome words.wanted [] (OverLink words.wanted since after) end → TellsOutcome words.wanted [] (GivesDialled words before after) end
-given_dialled words before after since dials given end count tells once same still h = (
+pub given_dialled : (words : AssignWords) (before after : DialerNow) (since wanting dials : ℕ) (given : Option Address) (end : AssignEnd) → before.faults ≤ since → Tells words.at.host words.at.port given → dials ≡ one_more before.dials → after.given ≡ given → after.dials ≡ dials → wanting ≡ before.wanting
+    → TellsOutcome words.wanted [] (OverLink words.wanted since wanting after) end → TellsOutcome words.wanted [] (GivesDialled words before after) end
+given_dialled words before after since wanting dials given end count tells once same still stands h = (
   h.0,
-  record { given = subst (Tells words.at.host words.at.port) (sym same) tells; once = still ∙ once; since = since; count = count; link = h.1 },
+  record { given = subst (Tells words.at.host words.at.port) (sym same) tells; once = still ∙ once; since = since; count = count; link = subst (λ (n : ℕ). OverLink words.wanted since n after h.0) stands h.1 },
   h.2,
 )
 
@@ -206,9 +208,9 @@ determined_on wanted text after came determine buses begun follows nothing =
 
 pub given_sim : (wanted : IndAddr) (text : Units) (bus after : BusNow) (came : Outcome) → BeginsAs wanted (Ok text) bus → ((one other : Begun) → lines_of one ≡ lines_of other → one ≡ other) → QuietBuses → QuietTexts → lines_of after.run.begun ≡ lines_of bus.run.begun
     → IsFresh (start after.run) → IsLegal (start after.run) after.run.events → FollowsText after.run.begun.losses (start after.run) after.run.events
-    → ((from : AddressWorld) (events : List AddressEvent) → told_of after.run ≡ Told from events → AlwaysKeepsUnits wanted from events) → UnitsDetermine wanted after came → bus.faults ≡ 0
+    → ((from : AddressWorld) (events : List AddressEvent) → told_of after.run ≡ Told from events → AlwaysKeepsUnits wanted from events) → UnitsDetermine wanted after came → bus.faults ≡ none_failed
     → WhereExact (EndsSo wanted came) (story after.run) → WhereTold (λ places. AcknowledgesRightly (entries places)) (story after.run)
-    → IfOk came (λ assigned. ¬ Rose bus.faults after.faults → WhereExact (Leaves wanted assigned) (story after.run)) → IfErr came (λ fault. FailsBy fault bus.faults after.faults) → GivesOnBus wanted text after came
+    → IfOk came (λ assigned. ¬ Rose bus.faults.failed after.faults.failed → WhereExact (Leaves wanted assigned) (story after.run)) → IfErr came (λ fault. FailsBy fault bus.faults after.faults) → GivesOnBus wanted text after came
 given_sim wanted text bus after came b law buses texts same fresh legal follows units determine none ended acknowledges leaves cause =
     let begun : after.run.begun ≡ begun_by wanted text = law after.run.begun bus.run.begun same ∙ run_begun wanted text bus b in
     let follows_it : FollowsText text.1 (start after.run) after.run.events = subst (λ (losses : List UnitLoss). FollowsText losses (start after.run) after.run.events) (ap (λ (z : Begun). z.losses) begun) follows in
@@ -224,7 +226,7 @@ given_sim wanted text bus after came b law buses texts same fresh legal follows 
     }
 
 -- what was judged has begun a bus on which nothing was done
-pub begun_new : (wanted : IndAddr) (j : Result Units Stop) (bus : BusNow) → BeginsAs wanted j bus → (bus.run.events ≡ []) × (bus.faults ≡ 0)
+pub begun_new : (wanted : IndAddr) (j : Result Units Stop) (bus : BusNow) → BeginsAs wanted j bus → (bus.run.events ≡ []) × (bus.faults ≡ none_failed)
 begun_new wanted (Ok text) bus b = (ap (λ (r : RunNow). r.events) b.0, b.1)
 begun_new wanted (Err why) bus b = absurd b
 

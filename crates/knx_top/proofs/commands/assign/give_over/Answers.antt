@@ -7,6 +7,7 @@ returns-clause-tells g c = (
   record {
     faults = _;
     taken = c.hang.ensures.count;
+    lacked = c.hang.ensures.wanting;
     over = rw (c.hang.ensures.told, c.back.ensures)
         (over_of c.args.wanted c.assign-link.result.1 _ _ _ (rw c.new.ensures c.requires.sound) c.assign-link.ensures.ends c.assign-link.ensures.acknowledges c.assign-link.ensures.leaves c.assign-link.ensures.cause);
   },
