@@ -1,5 +1,5 @@
 -- A run over a dialled link, once it was handed back.
-use Rattle.std.proofs.Common.{◌≡◌, ◌⊎◌, inl, inr, ◌≤◌, List, [], map, Option, Some, None, refl, sym, ap, subst, ℕ}
+use Rattle.std.proofs.Common.{◌≡◌, ◌⊎◌, inl, inr, ◌≤◌, List, [], map, Option, Some, None, refl, sym, ap, subst, ◌∙◌, ℕ}
 use Rattle.std.specs.Prelude.{IfSome}
 use Rattle.std.specs.List.{AllByRecursion}
 use Rattle.hub_work.specs.declared.job.HubJob.{HubJob}
@@ -34,22 +34,22 @@ use Rattle.knx_top.specs.commands.Download.{DialledRun, Dials, Download, IsReady
 
 -- ---- the dialer's counts take in the link's
 
--- on a link that was new, and is as it was, nothing was done
-back_new : {L : Type 0} (story_of : L → Story) (began line : L) (report : Report) (old faults : LinkCounts) (back : Story) (told : Option HubFault) → IsNewLink (story_of began) → back ≡ story_of line
-    → IfSome told (λ fault. FailsWhere fault old faults ⊎ (WantsAtFirst fault report × (line ≡ began))) → IfSome told (λ fault. FailsWhere fault old faults ⊎ (WantsAtFirst fault report × IsNewLink back))
-back_new story_of began line report old faults back None new is cause = tt
-back_new story_of began line report old faults back (Some fault) new is (inl failed) = inl failed
-back_new story_of began line report old faults back (Some fault) new is (inr first) = inr (first.0, subst IsNewLink (sym is) (subst (λ l. IsNewLink (story_of l)) (sym first.1) new))
+module _ {L : Type 0} (story_of : L → Story) (faults_of : L → LinkCounts) (began line : L) (report : Report) (none : faults_of began ≡ none_failed) (new : IsNewLink (story_of began)) where
+  -- on a link that was new, and is as it was, nothing was done
+  back_new : (back : Story) (told : Option HubFault) → back ≡ story_of line → IfSome told (λ fault. FailsWhere fault (faults_of began) (faults_of line) ⊎ (WantsAtFirst fault report × (line ≡ began)))
+      → IfSome told (λ fault. FailsWhere fault none_failed (faults_of line) ⊎ (WantsAtFirst fault report × IsNewLink back × (faults_of line ≡ none_failed)))
+  back_new back None is cause = tt
+  back_new back (Some fault) is (inl failed) = inl (subst (λ (n : LinkCounts). FailsWhere fault n (faults_of line)) none failed)
+  back_new back (Some fault) is (inr first) = inr (first.0, subst IsNewLink (sym is) (subst (λ l. IsNewLink (story_of l)) (sym first.1) new), ap faults_of first.1 ∙ none)
 
-pub caused : {L : Type 0} (story_of : L → Story) (began line : L) (report : Report) (old faults : LinkCounts) (failed wanting : ℕ) (after : DialerNow) → old ≡ none_failed → IsNewLink (story_of began) → after.link_back ≡ story_of line
-    → IfSome report.fault (λ fault. FailsWhere fault old faults ⊎ (WantsAtFirst fault report × (line ≡ began))) → TakesBack faults.failed failed after.faults → TakesBack faults.wanting wanting after.wanting → HasItsCause report failed wanting after
-caused story_of began line report old faults failed wanting after none new back cause taken lacked = record {
-  faults = faults;
-  taken = taken;
-  lacked = lacked;
-  cause = subst (λ (n : LinkCounts). IfSome report.fault (λ fault. FailsWhere fault n faults ⊎ (WantsAtFirst fault report × IsNewLink after.link_back))) none
-      (back_new story_of began line report old faults after.link_back report.fault new back cause);
-}
+  pub caused : (failed wanting : ℕ) (after : DialerNow) → after.link_back ≡ story_of line → IfSome report.fault (λ fault. FailsWhere fault (faults_of began) (faults_of line) ⊎ (WantsAtFirst fault report × (line ≡ began)))
+      → TakesBack (faults_of line).failed failed after.faults → TakesBack (faults_of line).wanting wanting after.wanting → HasItsCause report failed wanting after
+  caused failed wanting after back cause taken lacked = record {
+    faults = faults_of line;
+    taken = taken;
+    lacked = lacked;
+    cause = back_new after.link_back report.fault back cause;
+  }
 
 -- ---- by what the project says
 

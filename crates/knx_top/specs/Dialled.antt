@@ -63,7 +63,7 @@ pub record HasItsCause (report : Report) (failed wanting : ℕ) (after : DialerN
   pub faults : LinkCounts
   pub taken : TakesBack faults.failed failed after.faults
   pub lacked : TakesBack faults.wanting wanting after.wanting
-  pub cause : IfSome report.fault (λ fault. FailsWhere fault none_failed faults ⊎ (WantsAtFirst fault report × IsNewLink after.link_back))
+  pub cause : IfSome report.fault (λ fault. FailsWhere fault none_failed faults ⊎ (WantsAtFirst fault report × IsNewLink after.link_back × (faults ≡ none_failed)))
 
 -- ---- nothing was opened
 
