@@ -99,8 +99,11 @@ impl FixedLink {
 
     /// Sends a datagram; a fault of it is still to be counted.
     fn put(&mut self, octets: &[u8]) -> Result<(), LinkFault>
+        ensures sent { OnOk result (Sends octets.now (Recorded (clock_by self.old.lasting) self.old.entries) (Recorded (clock_by self.new.lasting) self.new.entries)) }
+        ensures failed { OnErr result (SendsOrNot octets.now (Recorded (clock_by self.old.lasting) self.old.entries) (Recorded (clock_by self.new.lasting) self.new.entries)) }
+        ensures time { newest_time self.new.entries ≡ newest_time self.old.entries }
         ensures after { self.new ≡ record self.old { calls = one_more self.old.calls; entries = with_entry result (entry (Put octets.now) (newest_time self.old.entries)) self.old.entries } }
-        ensures room { OnOk result (length self.old.entries < greatest_count) }
+        ensures events { length self.old.entries ≤ length self.new.entries }
         ensures fails { (result ≡ Err Failed) ↔ Fails self.old.fails self.new.calls self.old.entries (newest_time self.old.entries) }
     {
         let now = self.begin(0)?;
@@ -111,8 +114,11 @@ impl FixedLink {
 
     /// Takes a new endpoint; a fault of it is still to be counted.
     fn take_endpoint(&mut self) -> Result<(), LinkFault>
+        ensures renewed { OnOk result (Renews (Recorded (clock_by self.old.lasting) self.old.entries) (Recorded (clock_by self.new.lasting) self.new.entries)) }
+        ensures failed { OnErr result (RenewsOrNot (Recorded (clock_by self.old.lasting) self.old.entries) (Recorded (clock_by self.new.lasting) self.new.entries)) }
+        ensures time { newest_time self.new.entries ≡ newest_time self.old.entries }
         ensures after { self.new ≡ record self.old { calls = one_more self.old.calls; entries = with_entry result (entry Renewed (newest_time self.old.entries)) self.old.entries } }
-        ensures room { OnOk result (length self.old.entries < greatest_count) }
+        ensures events { length self.old.entries ≤ length self.new.entries }
         ensures fails { (result ≡ Err Failed) ↔ Fails self.old.fails self.new.calls self.old.entries (newest_time self.old.entries) }
     {
         let now = self.begin(0)?;
@@ -122,8 +128,10 @@ impl FixedLink {
 
     /// Waits for a datagram; a fault of it is still to be counted.
     fn wait(&mut self, into: &mut [u8; LONGEST_GOT], wait_ms: u32) -> Result<Polled, LinkFault>
+        ensures polled { PollsSo result into.new wait_ms (newest_time self.new.entries) (Recorded (clock_by self.old.lasting) self.old.entries) (Recorded (clock_by self.new.lasting) self.new.entries) }
+        ensures time { newest_time self.old.entries ≤ newest_time self.new.entries }
         ensures after { let next = next_of self.old.gives self.old.last self.old.answered in let now = brought next (newest_time self.old.entries + lasts (slice_get self.old.lasting self.old.answered) next wait_ms) in self.new ≡ record self.old { calls = one_more self.old.calls; answered = with_answer result self.old.answered; entries = with_entry result now self.old.entries } }
-        ensures room { OnOk result (length self.old.entries < greatest_count) }
+        ensures events { length self.old.entries ≤ length self.new.entries }
         ensures fails { let next = next_of self.old.gives self.old.last self.old.answered in let now = brought next (newest_time self.old.entries + lasts (slice_get self.old.lasting self.old.answered) next wait_ms) in (result ≡ Err Failed) ↔ Fails self.old.fails self.new.calls self.old.entries now.now }
         ensures answer { IfOk result (λ polled. Answers polled into.new (next_of self.old.gives self.old.last self.old.answered)) }
     {
