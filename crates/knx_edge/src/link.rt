@@ -118,11 +118,10 @@ impl<'a, R: Net + Clock, S: Datagrams> UdpLink<'a, R, S> {
             }
             Err(error) => error,
         };
-        let fault = match memory_of(&error) {
-            Some(want) => LinkFault::NoMemory(want),
-            None => LinkFault::Failed,
-        };
-        self.faults.count(Err(fault))
+        if let Some(want) = memory_of(&error) {
+            return self.faults.count(Err(LinkFault::NoMemory(want)));
+        }
+        self.faults.count(Err(LinkFault::Failed))
     }
 }
 

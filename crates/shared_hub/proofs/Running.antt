@@ -44,9 +44,9 @@ module _ {L : Type 0} (story_of : L → Story) (place_of : L → ℕ) (script_of
   first = (stand (faults_of opening.link), subst (λ (f : Option HubFault). IfSome f (λ why. FailsWhere why (faults_of opening.link) (faults_of opening.link))) (sym keeps.begun) tt)
 
   -- by a fault of the link, where the run began
-  by_link : {after : L} {report : Report} (told : Option HubFault) → IfSome told (λ fault. FailsWhere fault (faults_of opening.link) (faults_of after)) → IfSome told (λ fault. FailsWhere fault (faults_of opening.link) (faults_of after) ⊎ (WantsAtFirst fault report × (after ≡ opening.link)))
-  by_link None h = tt
-  by_link (Some fault) h = inl h
+  by_link : (after : L) (report : Report) (told : Option HubFault) → IfSome told (λ fault. FailsWhere fault (faults_of opening.link) (faults_of after)) → IfSome told (λ fault. FailsWhere fault (faults_of opening.link) (faults_of after) ⊎ (WantsAtFirst fault report × (after ≡ opening.link)))
+  by_link after report None h = tt
+  by_link after report (Some fault) h = inl h
 
   pub runs_so : (after : L) (report : Report) → GoesOn (story_of hub.link) (story_of after) → script_of after ≡ script_of hub.link
       → ((workers : ℕ) → IsOfWorkers workers hub.log → TellsRun workers (tasks_seen hub.jobs) hub.devices hub.turns (story_of after) (place_of after) report)
@@ -54,7 +54,7 @@ module _ {L : Type 0} (story_of : L → Story) (place_of : L → ℕ) (script_of
   runs_so after report grows script tells caused = record {
     grows = goes_again (story_of opening.link) (story_of hub.link) (story_of after) keeps.since.grows grows;
     script = script ∙ keeps.since.script;
-    cause = by_link report.fault (caused (faults_of opening.link) (keeps.since.caused (faults_of opening.link) first)).1;
+    cause = by_link after report report.fault (caused (faults_of opening.link) (keeps.since.caused (faults_of opening.link) first)).1;
     tells = told_for (length opening.crew) _ _ _ _ _ _ _ _ _ keeps.since.run.tasks keeps.since.run.devices keeps.since.run.turns (tells (length opening.crew) keeps.seats);
   }
 
