@@ -5,7 +5,7 @@ pub returns-clause-tells : goal.returns-clause-tells
 returns-clause-tells g c = (
   c.assign-link.result.1,
   record {
-    faults = _;
+    faults = g.D.L.Link.faults c.back.result;
     taken = c.hang.ensures.count;
     lacked = c.hang.ensures.wanting;
     over = rw (c.hang.ensures.told, c.back.ensures)
