@@ -12,7 +12,7 @@ use Rattle.line_model.specs.Record.{Item, Put, Renewed, Got, Quiet, entry, Place
 use Rattle.line_model.specs.LinkStory.{Story, newest_time}
 use Rattle.line_model.specs.Asks.{moment_of}
 use Rattle.line_model.specs.ChannelLost.{is_lost, last_frame, delivers, expected}
-use Rattle.line_model.specs.ClientView.{ClientChannel, Fresh, Sought, RefusedBy, Unanswered, Open, Lost, Deed, Puts, Takes, Loses, as_counted, channel, deed, deed_of, deed_in}
+use Rattle.line_model.specs.ClientView.{ClientChannel, Fresh, Sought, RefusedBy, Unanswered, Open, Lost, Deed, Puts, Takes, Loses, own_address, as_counted, channel, deed, deed_of, deed_in}
 use Rattle.line_model.specs.Faults.{datagrams_taken, flood}
 use Rattle.line_model.specs.Moments.{Moment, moments}
 use Rattle.tunnel_link.proofs.PutLast.{counted_puts}
@@ -79,8 +79,8 @@ got_not_put (RefusedBy status) octets now cemi e = cc
 got_not_put Unanswered octets now cemi e = cc
 got_not_put (Lost c) octets now cemi e = cc
 got_not_put (Open c l) octets now cemi e =
-    unless_lost (is_lost c l (entry (Got octets) now)) (as_counted (last_frame c l) (deed_in c l (entry (Got octets) now))) cemi
-    (λ d. takes_not (delivers c (expected c l) (request_in (got_in (Got octets)))) (request_in (got_in (Got octets))) cemi (counted_puts (last_frame c l) (deed_in c l (entry (Got octets) now)) cemi d)) e
+    unless_lost (is_lost c l (entry (Got octets) now)) (as_counted (own_address l) (last_frame c l) (deed_in c l (entry (Got octets) now))) cemi
+    (λ d. takes_not (delivers c (expected c l) (request_in (got_in (Got octets)))) (request_in (got_in (Got octets))) cemi (counted_puts (own_address l) (last_frame c l) (deed_in c l (entry (Got octets) now)) cemi d)) e
 
 put_not_got : (what : Item) (ch : ClientChannel) (now : ℕ) (cemi : List ℕ) → deed ch (entry what now) ≡ Puts cemi → is_got what ≡ false
 put_not_got (Put octets) ch now cemi e = refl

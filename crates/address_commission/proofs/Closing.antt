@@ -8,6 +8,7 @@ use Rattle.line_model.specs.declared.fault.HubFault.{HubFault}
 use Rattle.line_model.specs.declared.fault.HubFault.TheVariants as hub
 use Rattle.line_model.specs.Reading.{ldata_in}
 use Rattle.knx_model.specs.Outside.{Rose}
+use Rattle.line_model.specs.declared.outside.link_counts.LinkCounts.{LinkCounts}
 use Rattle.line_model.specs.Asks.{HasPlace}
 use Rattle.line_model.specs.Closing.{asks_to_end, is_open}
 use Rattle.line_model.specs.Haste.{KeepsPaces}
@@ -224,19 +225,19 @@ rose_from a b c m (inr top) = inr top
 same_fault : {X : Type 0} (why other : AssignFault) → (let one : Result X AssignFault = Err why in one) ≡ Err other → other ≡ why
 same_fault why other e = cc
 
-by_fault : (fault : HubFault) (old new : ℕ) → FailsWhere fault old new → FailsBy (fault_of fault) old new
-by_fault (hub.NoMemory want) old new h = tt
+by_fault : (fault : HubFault) (old new : LinkCounts) → FailsWhere fault old new → FailsBy (fault_of fault) old new
+by_fault (hub.NoMemory want) old new h = h
 by_fault hub.LinkFailed old new h = h
 by_fault (hub.GatewayRefused three) old new h = tt
 by_fault hub.Flooded old new h = tt
 by_fault (hub.WrongLine device tunnel) old new h = tt
 
-pub fails_by : {X : Type 0} (call : Result X HubFault) (why : AssignFault) (old new : ℕ) → ToldAs call (Err why) → IfErr call (λ fault. FailsWhere fault old new) → FailsBy why old new
+pub fails_by : {X : Type 0} (call : Result X HubFault) (why : AssignFault) (old new : LinkCounts) → ToldAs call (Err why) → IfErr call (λ fault. FailsWhere fault old new) → FailsBy why old new
 fails_by (Ok asked) why old new told cause = absurd (cc)
 fails_by {X = X} (Err fault) why old new told cause = subst (λ (z : AssignFault). FailsBy z old new) (same_fault {X = X} why (fault_of fault) told) (by_fault fault old new cause)
 
 -- a failing link is told only where its count rose
-pub failed_by : (why : AssignFault) (old new : ℕ) → why ≡ fails.LinkFailed → FailsBy why old new → Rose old new
+pub failed_by : (why : AssignFault) (old new : LinkCounts) → why ≡ fails.LinkFailed → FailsBy why old new → Rose old.failed new.failed
 failed_by why old new is h = subst (λ (z : AssignFault). FailsBy z old new) is h
 
 -- ---- after an answer

@@ -1,8 +1,9 @@
 //! Giving an address.
 
-ghost use Rattle.std.specs.Prelude.{◌≡◌, ◌≤◌, IfErr, IfOk, List, None, map};
+ghost use Rattle.std.specs.Prelude.{◌≡◌, IfErr, IfOk, List, None, map};
 ghost use Rattle.knx_model.specs.Outside.{Rose};
 ghost use Rattle.line_model.specs.LinkStory.{IsNewLink};
+ghost use Rattle.line_model.specs.Polled.{NeverFall};
 ghost use Rattle.line_model.specs.Record.{entries};
 ghost use Rattle.address_world.specs.AddressStory.{Told};
 ghost use Rattle.address_law.specs.Calm.{AreCalm};
@@ -35,13 +36,13 @@ pub fn assign<R: Wait, L: AddressLink>(
 ) -> (L, Result<Assigned, AssignFault>)
     requires { IsNewLink (L.story link) }
     ensures ends { WhereExact (EndsSo wanted result.1) (L.story result.0) }
-    ensures leaves { IfOk result.1 (λ assigned. ¬ Rose (L.faults link) (L.faults result.0) → WhereExact (Leaves wanted assigned) (L.story result.0)) }
+    ensures leaves { IfOk result.1 (λ assigned. ¬ Rose (L.faults link).failed (L.faults result.0).failed → WhereExact (Leaves wanted assigned) (L.story result.0)) }
     ensures channel { WhereTold KeepsChannel (L.story result.0) }
     ensures puts { WhereTold (λ places. PutsOnly wanted (entries places)) (L.story result.0) }
     ensures units { (start : AddressWorld) (events : List AddressEvent) → L.told result.0 ≡ Told start events → AlwaysKeepsUnits wanted start events }
     ensures determined { (start : AddressWorld) (events : List AddressEvent) → L.told result.0 ≡ Told start events → AreCalm start events → IsDetermined wanted (map shown start.units) (map shown (replay start events).units) result.1 }
     ensures cause { IfErr result.1 (λ fault. FailsBy fault (L.faults link) (L.faults result.0)) }
-    ensures count { L.faults link ≤ L.faults result.0 }
+    ensures count { NeverFall (L.faults link) (L.faults result.0) }
     ensures script { L.script result.0 ≡ L.script link }
 {
     units_keep_their_addresses();
@@ -64,11 +65,11 @@ fn talk<R: Wait, L: Link>(
     requires stands { tunnel.old.known.fault ≡ None }
     requires new { IsNewLink (L.story tunnel.old.link) }
     ensures ends { WhereExact (EndsSo wanted result) (L.story tunnel.new.link) }
-    ensures leaves { IfOk result (λ assigned. ¬ Rose (L.faults tunnel.old.link) (L.faults tunnel.new.link) → WhereExact (Leaves wanted assigned) (L.story tunnel.new.link)) }
+    ensures leaves { IfOk result (λ assigned. ¬ Rose (L.faults tunnel.old.link).failed (L.faults tunnel.new.link).failed → WhereExact (Leaves wanted assigned) (L.story tunnel.new.link)) }
     ensures puts { AsksSoFar wanted (L.story tunnel.new.link) }
     ensures tries { HasThreeTries result }
     ensures cause { IfErr result (λ fault. FailsBy fault (L.faults tunnel.old.link) (L.faults tunnel.new.link)) }
-    ensures count { L.faults tunnel.old.link ≤ L.faults tunnel.new.link }
+    ensures count { NeverFall (L.faults tunnel.old.link) (L.faults tunnel.new.link) }
     ensures script { L.script tunnel.new.link ≡ L.script tunnel.old.link }
 {
     let mut ear = Ear::new();

@@ -1,6 +1,7 @@
 //! Opening the channel.
 
-ghost use Rattle.std.specs.Prelude.{◌≡◌, ◌≤◌, IfErr, OnOk, None};
+ghost use Rattle.std.specs.Prelude.{◌≡◌, IfErr, OnOk, None};
+ghost use Rattle.line_model.specs.Polled.{NeverFall};
 ghost use Rattle.tunnel_link.specs.Adds.{HasActed};
 ghost use Rattle.address_talk.specs.Ends.{FailsBy};
 ghost use Rattle.address_commission.specs.Always.{AsksNoOther, IsFree};
@@ -28,7 +29,7 @@ pub fn open<R: Wait, L: Link>(
     ensures free { OnOk result (IsFree (L.story tunnel.new.link)) }
     ensures puts { AsksNoOther (L.story tunnel.old.link) (L.story tunnel.new.link) }
     ensures cause { IfErr result (λ fault. FailsBy fault (L.faults tunnel.old.link) (L.faults tunnel.new.link)) }
-    ensures count { L.faults tunnel.old.link ≤ L.faults tunnel.new.link }
+    ensures count { NeverFall (L.faults tunnel.old.link) (L.faults tunnel.new.link) }
     ensures script { L.script tunnel.new.link ≡ L.script tunnel.old.link }
 {
     for _ in rt.forever() {
@@ -50,7 +51,7 @@ fn seek<L: Link>(tunnel: &mut Tunnel<L>) -> Result<(), AssignFault>
     ensures stands { OnOk result (tunnel.new.known.fault ≡ None) }
     ensures puts { AsksNoOther (L.story tunnel.old.link) (L.story tunnel.new.link) }
     ensures cause { IfErr result (λ fault. FailsBy fault (L.faults tunnel.old.link) (L.faults tunnel.new.link)) }
-    ensures count { L.faults tunnel.old.link ≤ L.faults tunnel.new.link }
+    ensures count { NeverFall (L.faults tunnel.old.link) (L.faults tunnel.new.link) }
     ensures script { L.script tunnel.new.link ≡ L.script tunnel.old.link }
 {
     let sought = tunnel.seek();

@@ -1,7 +1,8 @@
 //! The talk by which an address is given.
 
-ghost use Rattle.std.specs.Prelude.{◌≡◌, ◌≤◌, IfErr, IfOk, OnOk, None, Some};
+ghost use Rattle.std.specs.Prelude.{◌≡◌, IfErr, IfOk, OnOk, None, Some};
 ghost use Rattle.line_model.specs.Moments.{moments};
+ghost use Rattle.line_model.specs.Polled.{NeverFall};
 ghost use Rattle.address_talk.specs.Ends.{AnsweredBy, FailsBy};
 ghost use Rattle.address_commission.specs.Always.{AsksSoFar, IsFree};
 ghost use Rattle.address_commission.specs.Calls.{TalkFails};
@@ -35,7 +36,7 @@ pub fn give<R: Wait, L: Link>(
     ensures stands { OnOk result (tunnel.new.known.fault ≡ None) }
     ensures puts { AsksSoFar wanted (L.story tunnel.old.link) → AsksSoFar wanted (L.story tunnel.new.link) }
     ensures cause { IfErr result (λ fault. FailsBy fault (L.faults tunnel.old.link) (L.faults tunnel.new.link)) }
-    ensures count { L.faults tunnel.old.link ≤ L.faults tunnel.new.link }
+    ensures count { NeverFall (L.faults tunnel.old.link) (L.faults tunnel.new.link) }
     ensures script { L.script tunnel.new.link ≡ L.script tunnel.old.link }
 {
     search(rt, tunnel, ear, wanted)?;

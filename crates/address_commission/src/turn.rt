@@ -1,6 +1,7 @@
 //! What is due, and one poll.
 
-ghost use Rattle.std.specs.Prelude.{◌≡◌, ◌<◌, ◌≤◌, IfErr, OnOk, None};
+ghost use Rattle.std.specs.Prelude.{◌≡◌, ◌<◌, IfErr, OnOk, None};
+ghost use Rattle.line_model.specs.Polled.{NeverFall};
 ghost use Rattle.knx_model.specs.declared.address.IndAddr.{IndAddr as Address};
 ghost use Rattle.tunnel_link.specs.Adds.{HasActed};
 ghost use Rattle.address_commission.specs.Always.{AsksNoOther};
@@ -30,7 +31,7 @@ pub fn act<L: Link>(tunnel: &mut Tunnel<L>) -> Result<(), AssignFault>
     ensures stands { OnOk result (tunnel.new.known.fault ≡ None) }
     ensures puts { AsksNoOther (L.story tunnel.old.link) (L.story tunnel.new.link) }
     ensures cause { IfErr result (λ fault. FailsBy fault (L.faults tunnel.old.link) (L.faults tunnel.new.link)) }
-    ensures count { L.faults tunnel.old.link ≤ L.faults tunnel.new.link }
+    ensures count { NeverFall (L.faults tunnel.old.link) (L.faults tunnel.new.link) }
     ensures script { L.script tunnel.new.link ≡ L.script tunnel.old.link }
 {
     let acted = tunnel.act();
@@ -63,7 +64,7 @@ pub fn poll<L: Link>(
     ensures stands { OnOk result (tunnel.new.known.fault ≡ None) }
     ensures puts { AsksNoOther (L.story tunnel.old.link) (L.story tunnel.new.link) }
     ensures cause { IfErr result (λ fault. FailsBy fault (L.faults tunnel.old.link) (L.faults tunnel.new.link)) }
-    ensures count { L.faults tunnel.old.link ≤ L.faults tunnel.new.link }
+    ensures count { NeverFall (L.faults tunnel.old.link) (L.faults tunnel.new.link) }
     ensures script { L.script tunnel.new.link ≡ L.script tunnel.old.link }
 {
     let polled = tunnel.poll(longest_ms);

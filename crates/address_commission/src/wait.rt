@@ -2,6 +2,7 @@
 
 ghost use Rattle.std.specs.Prelude.{◌≡◌, ◌≢◌, ◌⊎◌, ◌-◌, ◌<◌, ◌≤◌, IfErr, OnOk, None, true, false};
 ghost use Rattle.line_model.specs.Moments.{moments};
+ghost use Rattle.line_model.specs.Polled.{NeverFall};
 ghost use Rattle.line_model.specs.Waiting.{longest_poll};
 ghost use Rattle.address_talk.specs.Ends.{FailsBy};
 ghost use Rattle.address_commission.specs.Always.{AsksNoOther, IsFree};
@@ -32,7 +33,7 @@ pub fn wait_out<R: Wait, L: Link>(
     ensures free { OnOk result (IsFree (L.story tunnel.new.link)) }
     ensures puts { AsksNoOther (L.story tunnel.old.link) (L.story tunnel.new.link) }
     ensures cause { IfErr result (λ fault. FailsBy fault (L.faults tunnel.old.link) (L.faults tunnel.new.link)) }
-    ensures count { L.faults tunnel.old.link ≤ L.faults tunnel.new.link }
+    ensures count { NeverFall (L.faults tunnel.old.link) (L.faults tunnel.new.link) }
     ensures script { L.script tunnel.new.link ≡ L.script tunnel.old.link }
 {
     for _ in rt.forever() {

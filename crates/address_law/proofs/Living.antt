@@ -12,13 +12,16 @@ use Rattle.line_model.specs.Record.{Item, Entry, entry, item_of, noted}
 use Rattle.line_model.specs.ClientView.{channel, deed}
 use Rattle.line_model.specs.Tunnel as tunnel
 use Rattle.line_model.specs.Tunnel.{Tunnel, TunnelEvent, Commissions}
-use Rattle.line_model.specs.World.{Comes, heard, on_bus}
+use Rattle.line_model.specs.World.{AtGateway, Comes as Heard, IsLost, heard, on_bus}
+use Rattle.line_law.proofs.Arrivals.{home_reaches}
+use Rattle.line_law.proofs.OwnAddress.{ReachesAs, Comes, IsItsTunnel, KnowsOwn, con_reaches, its_step, its_first, item_own, knows_noted}
 use Rattle.calm_law.specs.CalmTunnel as calm
 use Rattle.calm_law.specs.CalmTunnel.{Confirms, IsIndication}
 use Rattle.calm_law.proofs.Joined.{step_now}
 use Rattle.calm_law.proofs.Law.{Inv, Keeps, RidesOn, begins, keeps_before, may_of, step_kept}
-use Rattle.calm_law.proofs.State.{Going, Lives}
-use Rattle.address_world.specs.AddressWorld.{AddressWorld, AddressEvent, UnitState, Send, Renew, Up, UpRefused, Down, LoseUp, LoseDown, Bus, Respond, GwRepeat, GwClose, Pass, me, carried, has_address, oldest, oldest_at, response, tunnel_event, tunnel_events, units_after, replay}
+use Rattle.calm_law.proofs.State.{NoStrays, Going, Lives}
+use Rattle.calm_law.proofs.OwnFrames.{its_frames}
+use Rattle.address_world.specs.AddressWorld.{AddressWorld, AddressEvent, UnitState, Send, Renew, Up, UpRefused, Down, LoseUp, LoseDown, Bus, Respond, GwRepeat, GwClose, Pass, me, next_frame, carried, has_address, oldest, oldest_at, response, tunnel_event, tunnel_events, units_after, replay}
 use Rattle.address_world.specs.AddressLegal.{IsFresh, IsLegal, MayHappen}
 use Rattle.address_world.specs.AddressStory.{record_of}
 use Rattle.address_law.specs.Calm.{AreCalm, IsCalm}
@@ -53,7 +56,7 @@ module _ (w : AddressWorld) where
   indication : (s : IndAddr) → IsIndication (response s)
   indication s = record { code = refl; fits = omega arith }
 
-  heard_calm : (at : ℕ) (o : Option Ldata) → oldest_at at w.units ≡ o → calm.IsCalm w.tunnel (heard Comes o)
+  heard_calm : (at : ℕ) (o : Option Ldata) → oldest_at at w.units ≡ o → calm.IsCalm w.tunnel (heard Heard o)
   heard_calm at None e = tt
   heard_calm at (Some y) e = let is = response_at at w.units y e in (subst IsIndication (sym is.1) (indication is.0), tt)
 
@@ -87,6 +90,49 @@ records start (e ∷ past) =
     let te : TunnelEvent = tunnel_event (replay start past) e in
     ap (λ t. noted (item_of t te) (tunnel.step t te).now (record_at start past)) (same_tunnel start past)
     ∙ ap (λ r. noted (item_of (tunnel.replay start.tunnel (tunnel_events start past)) te) (tunnel.step (tunnel.replay start.tunnel (tunnel_events start past)) te).now r) (records start past)
+
+-- ---- all that comes to the client is the tunnel's own: the units send to all alone
+
+module _ (own : IndAddr) where
+  carried_comes : (w : AddressWorld) (o : Option Ldata) → Comes own (carried w o)
+  carried_comes w None = tt
+  carried_comes w (Some f) = con_reaches own f (not (f.group || has_address f.destination w.units))
+
+  heard_comes : (gateway : AtGateway) (o : Option Ldata) → ((f : Ldata) → o ≡ Some f → (s : IndAddr) × (f ≡ response s)) → Comes own (heard gateway o)
+  heard_comes Heard None h = tt
+  heard_comes Heard (Some f) h = let is = h f refl in (subst (ReachesAs own) (sym is.1) (home_reaches own (response is.0) refl (inl refl)), tt)
+  heard_comes IsLost o h = tt
+
+  comes : (w : AddressWorld) (e : AddressEvent) → Comes own (tunnel_event w e)
+  comes w (Send octets) = tt
+  comes w Renew = tt
+  comes w (Up age) = tt
+  comes w (UpRefused age status) = tt
+  comes w (Down age) = tt
+  comes w (LoseUp age) = tt
+  comes w (LoseDown age) = tt
+  comes w (Bus left_out) = carried_comes w (next_frame w)
+  comes w (Respond at gateway) = heard_comes gateway (oldest_at at w.units) (λ f e. response_at at w.units f e)
+  comes w GwRepeat = tt
+  comes w GwClose = tt
+  comes w (Pass ms) = tt
+
+record IsOwn (start : AddressWorld) (events : List AddressEvent) : Type 0 where
+  tunnel_is : IsItsTunnel (me start) (replay start events).tunnel
+  knows : KnowsOwn (me start) (channel (record_at start events))
+
+own_always : (start : AddressWorld) (events : List AddressEvent) → IsFresh start → IsLegal start events → IsOwn start events
+own_always start [] f l = record { tunnel_is = subst (IsItsTunnel (me start)) (sym f.tunnel) (its_first (me start)); knows = tt }
+own_always start (e ∷ past) f l =
+    let w : AddressWorld = replay start past in
+    let o : IsOwn start past = own_always start past f l.1 in
+    record {
+      tunnel_is = its_step (me start) w.tunnel (tunnel_event w e) l.0.tunnel (comes (me start) w e) o.tunnel_is;
+      knows = knows_noted (me start) (item_of w.tunnel (tunnel_event w e)) (replay start (e ∷ past)).tunnel.now (record_at start past) (item_own (me start) w.tunnel (tunnel_event w e) o.tunnel_is) o.knows;
+    }
+
+own_frames : (start : AddressWorld) (events : List AddressEvent) → IsFresh start → IsLegal start events → NoStrays (channel (record_at start events)) (replay start events).tunnel.gateway.channel
+own_frames start events f l = let o : IsOwn start events = own_always start events f l in its_frames (me start) (replay start events).tunnel (record_at start events) o.tunnel_is o.knows
 
 -- ---- what holds of the record before
 
@@ -129,8 +175,8 @@ module _ (wanted : IndAddr) (start : AddressWorld) where
       subst (λ t. Lives (Now wanted start.units [] start.units) [] t) (sym f.tunnel)
       (begins (Now wanted start.units [] start.units) (me start) (record { rides = (refl, (refl, (own.1, own.0))); first = λ e. refl }))
 
-  one_more : (past : List AddressEvent) (e : AddressEvent) → MayHappen (replay start past) e → IsCalm (replay start past) e → Keeps (record_at start (e ∷ past)) → TalksSo wanted (record_at start (e ∷ past)) → StaysOpen (record_at start (e ∷ past)) → Alive past → Alive (e ∷ past)
-  one_more past e may c keeps talks stays l =
+  one_more : (past : List AddressEvent) (e : AddressEvent) → NoStrays (channel (record_at start past)) (replay start past).tunnel.gateway.channel → MayHappen (replay start past) e → IsCalm (replay start past) e → Keeps (record_at start (e ∷ past)) → TalksSo wanted (record_at start (e ∷ past)) → StaysOpen (record_at start (e ∷ past)) → Alive past → Alive (e ∷ past)
+  one_more past e own may c keeps talks stays l =
       let w : AddressWorld = replay start past in
       let t : Tunnel = w.tunnel in
       let r : List Entry = record_at start past in
@@ -140,7 +186,7 @@ module _ (wanted : IndAddr) (start : AddressWorld) where
       let F : Option Ldata → List Ldata → Type 0 = Now wanted start.units (record_at start (e ∷ past)) (units_after w e) in
       let same : (tunnel.step t te).now ≡ (tunnel.after t te).now = step_now t te in
       let does : Does wanted start.units w r e = λ item is. does_of wanted o (tunnel.after t te).now r (subst (λ n. TalksSo wanted (noted o n r)) same talks) item is in
-      let on : RidesOn E F r t te = subst (λ n. RidesOn E (Now wanted start.units (noted o n r) (units_after w e)) r t te) (sym same) (rides_on wanted start.units w r (newest_of E r t l) e c may.units does) in
+      let on : RidesOn E F r t te = subst (λ n. RidesOn E (Now wanted start.units (noted o n r) (units_after w e)) r t te) (sym same) (rides_on wanted start.units w r own (newest_of E r t l) e c may.units does) in
       only_lives F (record_at start (e ∷ past)) (tunnel.step t te) (step_kept E F r t te (inl l) may.tunnel (event_calm w e c) (may_of o (tunnel.step t te).now r keeps) on) stays
 
   pub alive : (events : List AddressEvent) → IsFresh start → IsLegal start events → AreCalm start events → Keeps (record_at start events) → TalksSo wanted (record_at start events) → StaysOpen (record_at start events) → Alive events
@@ -149,7 +195,7 @@ module _ (wanted : IndAddr) (start : AddressWorld) where
       let w : AddressWorld = replay start past in
       let o : Option Item = item_of w.tunnel (tunnel_event w e) in
       let now : ℕ = (replay start (e ∷ past)).tunnel.now in
-      one_more past e l.0 c.0 k talks stays
+      one_more past e (own_frames start past f l.1) l.0 c.0 k talks stays
       (alive past f l.1 c.1 (keeps_before o now (record_at start past) k) (talks_before wanted o now (record_at start past) talks) (stays_before o now (record_at start past) stays))
 
   -- ---- its tunnel is calm

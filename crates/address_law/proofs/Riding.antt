@@ -14,13 +14,13 @@ use Rattle.line_model.specs.ChannelLost.{is_lost, is_new_request, last_frame}
 use Rattle.line_model.specs.LinkStory.{newest_time}
 use Rattle.line_model.specs.Network.{Sent}
 use Rattle.line_model.specs.Record.{Item, Put, Renewed, Got, Quiet, Entry, entry, noted, got, item_of, put_in, is_got, is_renewal}
-use Rattle.line_model.specs.ClientView.{ClientChannel, Fresh, Sought, RefusedBy, Unanswered, Open, Lost, Deed, Puts, Takes, Loses, Nothing, deed_of, or_takes, as_counted, channel, deed}
+use Rattle.line_model.specs.ClientView.{ClientChannel, Fresh, Sought, RefusedBy, Unanswered, Open, Lost, Deed, Puts, Takes, Loses, Nothing, deed_of, or_takes, own_address, as_counted, channel, deed}
 use Rattle.line_model.specs.Tunnel as tunnel
 use Rattle.line_model.specs.Tunnel.{Tunnel}
 use Rattle.line_model.specs.World.{AtGateway, Comes, heard, on_bus}
 use Rattle.calm_law.proofs.Joined.{fresh_before}
 use Rattle.calm_law.proofs.Law.{RidesOn}
-use Rattle.calm_law.proofs.State.{Steps}
+use Rattle.calm_law.proofs.State.{NoStrays, Steps, none_strays}
 use Rattle.address_world.specs.declared.asked.Asked.{Asked}
 use Rattle.address_world.specs.declared.asked.Asked.TheVariants.{Read, Connect, Disconnect, Write}
 use Rattle.address_world.specs.AddressWorld.{AddressWorld, AddressEvent, UnitState, Send, Renew, Up, UpRefused, Down, LoseUp, LoseDown, Bus, Respond, GwRepeat, GwClose, Pass, me, next_frame, has_address, confirmation, carried, carried_to, changed, oldest_at, sends, tunnel_event, units_after}
@@ -42,10 +42,10 @@ takes _ = false
 is_taken : (what : Deed) (cemi : List ℕ) → what ≡ Takes cemi → takes what ≡ true
 is_taken what cemi e = ap takes e
 
-puts_only : (last : Option Ldata) (t : Bool) (o : Option RequestFrame) → takes (as_counted last (or_takes (deed_of Puts t o) Nothing)) ≡ false
-puts_only last t None = refl
-puts_only last true (Some request) = refl
-puts_only last false (Some request) = refl
+puts_only : (address : Option IndAddr) (last : Option Ldata) (t : Bool) (o : Option RequestFrame) → takes (as_counted address last (or_takes (deed_of Puts t o) Nothing)) ≡ false
+puts_only address last t None = refl
+puts_only address last true (Some request) = refl
+puts_only address last false (Some request) = refl
 
 -- only what is got is taken
 put_takes : (ch : ClientChannel) (octets : List ℕ) (now : ℕ) → takes (deed ch (entry (Put octets) now)) ≡ false
@@ -54,7 +54,7 @@ put_takes Fresh octets now = refl
 put_takes (Sought since) octets now = refl
 put_takes (RefusedBy status) octets now = refl
 put_takes Unanswered octets now = refl
-put_takes (Open c l) octets now = puts_only (last_frame c l) (is_new_request c l (entry (Put octets) now)) (request_in (put_in (Put octets)))
+put_takes (Open c l) octets now = puts_only (own_address l) (last_frame c l) (is_new_request c l (entry (Put octets) now)) (request_in (put_in (Put octets)))
 put_takes (Lost c) octets now = refl
 
 loses_or_nothing : (t : Bool) → takes (cond t Loses Nothing) ≡ false
@@ -277,20 +277,23 @@ module _ (wanted : IndAddr) (start : List UnitState) where
     abbrev So : AddressEvent → Type 0
     So e = RidesOn (Now r w.units) (Now (noted (item_of t (tunnel_event w e)) (tunnel.after t (tunnel_event w e)).now r) (units_after w e)) r t (tunnel_event w e)
 
-    pub rides_on : newest_time r ≡ t.now → (e : AddressEvent) → IsCalm w e → UnitsAllow w e → Does e → So e
-    rides_on newest (Send octets) calm can does = steps r w.units (entry (Put octets) t.now) (sym newest) (λ h. absurd (let z : false ≡ true = h in cc)) (does (Put octets) refl)
-    rides_on newest Renew calm can does = λ fresh. steps r w.units (entry Renewed t.now) (sym newest) (λ h. fresh) (does Renewed refl)
-    rides_on newest (Up age) calm can does = λ fly q h. h
-    rides_on newest (UpRefused age status) calm can does = absurd calm
-    rides_on newest (Down age) calm can does = λ item is.
-        subst (λ o. Steps (Now r w.units) (Now (noted o t.now r) w.units) (deed (channel r) (entry item t.now))) (sym is)
-        (steps r w.units (entry item t.now) (sym newest) (λ h. absurd (got_not (slice_get t.network.down age) item is h)) (does item is))
-    rides_on newest (LoseUp age) calm can does = absurd calm
-    rides_on newest (LoseDown age) calm can does = absurd calm
-    rides_on newest (Bus left_out) calm can does =
+    pub rides_on : NoStrays (channel r) t.gateway.channel → newest_time r ≡ t.now → (e : AddressEvent) → IsCalm w e → UnitsAllow w e → Does e → So e
+    rides_on none newest (Send octets) calm can does = steps r w.units (entry (Put octets) t.now) (sym newest) (λ h. absurd (let z : false ≡ true = h in cc)) (does (Put octets) refl)
+    rides_on none newest Renew calm can does = λ fresh. steps r w.units (entry Renewed t.now) (sym newest) (λ h. fresh) (does Renewed refl)
+    rides_on none newest (Up age) calm can does = λ fly q h. h
+    rides_on none newest (UpRefused age status) calm can does = absurd calm
+    rides_on none newest (Down age) calm can does = (
+      λ item is.
+          subst (λ o. Steps (Now r w.units) (Now (noted o t.now r) w.units) (deed (channel r) (entry item t.now))) (sym is)
+          (steps r w.units (entry item t.now) (sym newest) (λ h. absurd (got_not (slice_get t.network.down age) item is h)) (does item is)),
+      none_strays (Now r w.units) (Now (noted (item_of t (tunnel.Down age)) t.now r) w.units) (channel r) t.gateway.channel none,
+    )
+    rides_on none newest (LoseUp age) calm can does = absurd calm
+    rides_on none newest (LoseDown age) calm can does = absurd calm
+    rides_on none newest (Bus left_out) calm can does =
         subst (λ l. RidesOn (Now r w.units) (Now (noted (item_of t (carried w (next_frame w))) (tunnel.after t (carried w (next_frame w))).now r) (carried_to l (next_frame w) w.units)) r t (carried w (next_frame w))) (sym calm)
         (bus_rides t.gateway.bus refl can)
-    rides_on newest (Respond at gateway) calm can does = subst (λ g. Over_heard at g (oldest_at at w.units)) (sym calm) (respond_rides at (oldest_at at w.units) refl can)
-    rides_on newest GwRepeat calm can does = λ fly q h. h
-    rides_on newest GwClose calm can does = λ fly q h. h
-    rides_on newest (Pass ms) calm can does = λ q so h. pass_rides ms (all_sent w.units calm.units) q so h
+    rides_on none newest (Respond at gateway) calm can does = subst (λ g. Over_heard at g (oldest_at at w.units)) (sym calm) (respond_rides at (oldest_at at w.units) refl can)
+    rides_on none newest GwRepeat calm can does = λ fly q h. h
+    rides_on none newest GwClose calm can does = λ fly q h. h
+    rides_on none newest (Pass ms) calm can does = λ q so h. pass_rides ms (all_sent w.units calm.units) q so h

@@ -1,12 +1,15 @@
--- The simulated bus as it is driven: its run, and how many of its calls failed, which is none before its clock runs out.
-use Rattle.std.specs.Prelude.{◌≡◌, ◌⊎◌, ◌+◌, ◌<◌, ◌^◌, ℕ, [], Option, Some, None}
+-- The simulated bus as it is driven: its run, and how many of its calls failed, which is none before its clock runs out, or found no memory.
+use Rattle.std.specs.Prelude.{◌≡◌, ◌⊎◌, ◌+◌, ◌<◌, ◌^◌, ℕ, [], Option, Some, None, Result, IfErr}
 use Rattle.knx_model.specs.Connection.{last_time}
+use Rattle.line_model.specs.declared.outside.link.LinkFault.{LinkFault}
+use Rattle.line_model.specs.declared.outside.link.LinkFault.TheVariants as fault
+use Rattle.line_model.specs.declared.outside.link_counts.LinkCounts.{LinkCounts}
 use Rattle.address_sim.specs.Told.{RunNow, time}
 use Rattle.address_sim.specs.Turns.{RunState, seen}
 
 pub record BusNow : Type 0 where
   pub run : RunNow
-  pub faults : ℕ
+  pub faults : LinkCounts
 
 -- before a text is loaded: the tunnel 1.1.255, and no units
 abbrev pub nothing_run : RunNow
@@ -24,4 +27,8 @@ RunsOut r = last_time < time r + 2 ^ 32
 
 -- so many calls of the run failed: none before its end
 abbrev pub FailsAtEnd : ℕ → RunNow → Type 0
-FailsAtEnd faults r = (faults ≡ 0) ⊎ RunsOut r
+FailsAtEnd failed r = (failed ≡ 0) ⊎ RunsOut r
+
+-- and a call fails otherwise than for want of memory only there
+abbrev pub FailsOut : {X : Type 0} → Result X LinkFault → RunNow → Type 0
+FailsOut result r = IfErr result (λ why. why ≡ fault.Failed → RunsOut r)

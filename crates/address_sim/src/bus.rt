@@ -3,6 +3,7 @@
 ghost use Rattle.std.specs.Prelude.{◌≡◌, ◌≤◌, [], IfOk, OnErr, OnOk, length, map};
 ghost use Rattle.address_world.specs.AddressLegal.{IsFresh, IsLegal};
 ghost use Rattle.address_world.specs.AddressStory.{record_of};
+ghost use Rattle.line_model.specs.Polled.{none_failed};
 ghost use Rattle.address_sim.specs.Driven.{FailsAtEnd, bus_of, nothing_run};
 ghost use Rattle.address_sim.specs.Follows.{FollowsText};
 ghost use Rattle.address_sim.specs.Told.{start, time, units_now};
@@ -11,17 +12,18 @@ ghost use Rattle.address_sim.specs.Turns.{seen};
 use crate::run::{Beginning, Run};
 use address_world::{Unit, UnitScript};
 use knx_model::{IndAddr, List, NoMemory};
+use line_model::LinkCounts;
 use std::alloc::Global;
 use std::marker::Model;
 use tunnel_sim::DEFAULT_TUNNEL;
 
 /// A bus of units behind a tunnel, which does just what its text says, and before one is loaded has no units. Contracts see what it began with, its
-/// events, the newest first, and how many of its calls failed.
+/// events, the newest first, and how many of its calls failed or found no memory.
 #[derive(Drop)]
 pub struct AddressBus {
     pub(crate) alloc: Global,
     pub(crate) run: Option<Run>,
-    pub(crate) faults: u64,
+    pub(crate) faults: LinkCounts,
 }
 
 impl Model for AddressBus {
@@ -31,24 +33,24 @@ impl Model for AddressBus {
 
     ghost view = { λ b. record { run = bus_of b.run; faults = b.faults } };
 
-    ghost invariant = { λ b. FailsAtEnd b.faults (bus_of b.run) };
+    ghost invariant = { λ b. FailsAtEnd b.faults.failed (bus_of b.run) };
 }
 
 impl AddressBus {
     /// A bus without units on which nothing has happened. It takes no memory.
     pub fn empty(alloc: Global) -> AddressBus
-        ensures { result ≡ record { run = nothing_run; faults = 0 } }
+        ensures { result ≡ record { run = nothing_run; faults = none_failed } }
     {
         AddressBus {
             alloc,
             run: None,
-            faults: 0,
+            faults: LinkCounts::none(),
         }
     }
 
     /// Begins anew: the tunnel's address, the units and what is lost. At `Err` nothing has changed.
     pub fn load(&mut self, tunnel: IndAddr, text: &UnitScript) -> Result<(), NoMemory>
-        ensures loaded { OnOk result (self.new ≡ record { run = record { begun = record { tunnel = tunnel; units = text.now.units; losses = text.now.losses }; events = [] }; faults = 0 }) }
+        ensures loaded { OnOk result (self.new ≡ record { run = record { begun = record { tunnel = tunnel; units = text.now.units; losses = text.now.losses }; events = [] }; faults = none_failed }) }
         ensures err { OnErr result (self.new ≡ self.old) }
     {
         let begun = Beginning {
@@ -57,7 +59,7 @@ impl AddressBus {
             losses: copied(self.alloc, &text.losses)?,
         };
         self.run = Some(Run::begin(self.alloc, begun)?);
-        self.faults = 0;
+        self.faults = LinkCounts::none();
         Ok(())
     }
 
@@ -77,7 +79,7 @@ impl AddressBus {
         ensures fresh { IsFresh (start self.now.run) }
         ensures legal { IsLegal (start self.now.run) self.now.run.events }
         ensures follows { FollowsText self.now.run.begun.losses (start self.now.run) self.now.run.events }
-        ensures faults { FailsAtEnd self.now.faults self.now.run }
+        ensures faults { FailsAtEnd self.now.faults.failed self.now.run }
     {
         if let Some(run) = &self.run {
             run.keeps();

@@ -1,8 +1,9 @@
-//! The simulated bus is driven: its run is called, and the calls that fail are counted.
+//! The simulated bus is driven: its run is called. A fault of a call is still to be counted.
 
-ghost use Rattle.std.specs.Prelude.{◌≡◌, ◌≤◌, OnErr, OnOk};
-ghost use Rattle.line_model.specs.Polled.{FailsWhere, PollsSo};
+ghost use Rattle.std.specs.Prelude.{◌≡◌, OnErr, OnOk};
+ghost use Rattle.line_model.specs.Polled.{FailsWhere, NeverFall, PollsSo};
 ghost use Rattle.address_world.specs.AddressWorld.{Send, Renew};
+ghost use Rattle.address_sim.specs.Driven.{FailsOut};
 ghost use Rattle.address_sim.specs.Told.{happened, story, time};
 
 use crate::bus::{AddressBus, take_run};
@@ -14,8 +15,8 @@ impl AddressBus {
     pub(crate) fn send_to_run(&mut self, octets: &[u8]) -> Result<(), LinkFault>
         ensures went { OnOk result (self.new.run ≡ happened self.old.run (Send octets.now)) }
         ensures err { OnErr result (self.new.run ≡ self.old.run) }
+        ensures out { FailsOut result self.new.run }
         ensures faults { self.new.faults ≡ self.old.faults }
-        ensures cause { FailsWhere result self.old.faults self.new.faults }
     {
         let mut run = take_run(self.alloc, &mut self.run)?;
         let sent = run.send(octets);
@@ -28,8 +29,8 @@ impl AddressBus {
     pub(crate) fn renew_run(&mut self) -> Result<(), LinkFault>
         ensures went { OnOk result (self.new.run ≡ happened self.old.run Renew) }
         ensures err { OnErr result (self.new.run ≡ self.old.run) }
+        ensures out { FailsOut result self.new.run }
         ensures faults { self.new.faults ≡ self.old.faults }
-        ensures cause { FailsWhere result self.old.faults self.new.faults }
     {
         let mut run = take_run(self.alloc, &mut self.run)?;
         let renewed = run.renew();
@@ -47,13 +48,12 @@ impl AddressBus {
     ) -> Result<Polled, LinkFault>
         ensures polled { PollsSo result into.new wait_ms (time self.new.run) (story self.old.run) (story self.new.run) }
         ensures begun { self.new.run.begun ≡ self.old.run.begun }
-        ensures count { self.old.faults ≤ self.new.faults }
-        ensures cause { FailsWhere result self.old.faults self.new.faults }
+        ensures out { FailsOut result self.new.run }
+        ensures faults { self.new.faults ≡ self.old.faults }
     {
         let mut run = take_run(self.alloc, &mut self.run)?;
         if u64::from(wait_ms) > u64::MAX - run.now() {
             self.run = Some(run);
-            self.faults = self.faults.saturating_add(1);
             return Err(LinkFault::Failed);
         }
         let polled = run.poll(wait_ms);
@@ -62,5 +62,17 @@ impl AddressBus {
             Some(octets) => Ok(Polled::Got(fill(into, &octets))),
             None => Ok(Polled::Quiet),
         }
+    }
+
+    /// What a call answers: where it failed, or found no memory, that is counted.
+    pub(crate) fn answer<T>(&mut self, came: Result<T, LinkFault>) -> Result<T, LinkFault>
+        requires { FailsOut came self.old.run }
+        ensures same { result ≡ came }
+        ensures run { self.new.run ≡ self.old.run }
+        ensures cause { FailsWhere result self.old.faults self.new.faults }
+        ensures never_fall { NeverFall self.old.faults self.new.faults }
+        ensures still { OnOk result (self.new.faults ≡ self.old.faults) }
+    {
+        self.faults.count(came)
     }
 }

@@ -22,15 +22,18 @@ impl Link for AddressBus {
     ghost faults = { λ (b : BusNow). b.faults };
 
     fn send(&mut self, octets: &[u8]) -> Result<(), LinkFault> {
-        self.send_to_run(octets)
+        let sent = self.send_to_run(octets);
+        self.answer(sent)
     }
 
     fn renew(&mut self) -> Result<(), LinkFault> {
-        self.renew_run()
+        let renewed = self.renew_run();
+        self.answer(renewed)
     }
 
     fn poll(&mut self, into: &mut [u8; 512], wait_ms: u32) -> Result<Polled, LinkFault> {
-        self.poll_run(into, wait_ms)
+        let polled = self.poll_run(into, wait_ms);
+        self.answer(polled)
     }
 
     fn now(&self) -> u64 {

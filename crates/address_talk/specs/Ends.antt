@@ -4,6 +4,7 @@ use Rattle.std.specs.Prelude.{◌≡◌, ◌⊎◌, ℕ, suc, ◌+◌, ◌≤◌
 use Rattle.knx_model.specs.declared.address.IndAddr.{IndAddr}
 use Rattle.knx_model.specs.Outside.{Rose}
 use Rattle.line_model.specs.declared.fault.Try.{Try}
+use Rattle.line_model.specs.declared.outside.link_counts.LinkCounts.{LinkCounts}
 use Rattle.line_model.specs.Asks.{HasPlace}
 use Rattle.line_model.specs.ClientView.{channel}
 use Rattle.line_model.specs.ChannelLost.{answer_wait}
@@ -122,10 +123,10 @@ EndsSo wanted (Err fault) places = FailsRightly wanted fault places ⊎ FailsLat
 abbrev pub HasThreeTries : Result Assigned AssignFault → Type 0
 HasThreeTries came = (three : List Try) → came ≡ Err (GatewayRefused three) → length three ≡ 3
 
--- that the link failed is told only where its count of faults rose
-abbrev pub FailsBy : AssignFault → ℕ → ℕ → Type 0
+-- that the link failed, or had no memory, is told only where its count of that rose
+abbrev pub FailsBy : AssignFault → LinkCounts → LinkCounts → Type 0
 FailsBy TunnelLost old new = Unit {0}
-FailsBy LinkFailed old new = Rose old new
+FailsBy LinkFailed old new = Rose old.failed new.failed
 FailsBy (GatewayRefused three) old new = Unit {0}
 FailsBy Flooded old new = Unit {0}
-FailsBy (NoMemory want) old new = Unit {0}
+FailsBy (NoMemory want) old new = Rose old.wanting new.wanting

@@ -13,14 +13,11 @@ use Rattle.bus_sim.proofs.Owings.{and_nothing}
 
 -- ---- lists
 
-pub one_called : (l x : List Owed) → l ≡ x → (l ++ []) ++ [] ≡ x
-one_called l x e = and_nothing (l ++ []) ∙ and_nothing l ∙ e
+pub one_called : (l x : List Owed) → l ≡ x → l ++ [] ≡ x
+one_called l x e = and_nothing l ∙ e
 
-pub two_called : (l k x y : List Owed) → l ≡ x → k ≡ y → (l ++ k) ++ [] ≡ x ++ y
-two_called l k x y e f = and_nothing (l ++ k) ∙ ap (λ z. z ++ k) e ∙ ap (λ z. x ++ z) f
-
-pub three_called : (j l k x y : List Owed) → l ≡ x → k ≡ y → (j ++ l) ++ k ≡ (j ++ x) ++ y
-three_called j l k x y e f = ap (λ z. (j ++ z) ++ k) e ∙ ap (λ z. (j ++ x) ++ z) f
+pub two_called : (l k x y : List Owed) → l ≡ x → k ≡ y → l ++ k ≡ x ++ y
+two_called l k x y e f = ap (λ z. z ++ k) e ∙ ap (λ z. x ++ z) f
 
 -- ---- counts
 

@@ -38,3 +38,4 @@ pub mod Serves
 pub mod Sound
 pub mod Faults
 pub mod Meets
+pub mod Powers

@@ -1,7 +1,7 @@
 -- What the script calls for first is right to happen.
 use Rattle.std.proofs.Common.{◌≡◌, ◌≢◌, ℕ, true, is_some, IfSome, Option, Some, None, refl, subst}
-use Rattle.line_model.specs.Owed.{Owed, BringAgain, PowerReturns, ConnectionCloses, ChannelCloses}
-use Rattle.line_model.specs.World.{BusAgain, DevClose, GwClose, On}
+use Rattle.line_model.specs.Owed.{Owed, BringAgain, ConnectionCloses, ChannelCloses}
+use Rattle.line_model.specs.World.{BusAgain, DevClose, GwClose}
 use Rattle.bus_sim.specs.RunNow.{RunNow, Calls, IsRight, Keeps, mode, owed_in, script, start, world}
 use Rattle.bus_sim.proofs.OwesAlways.{CanMeet, can_meet, owes}
 use Rattle.bus_sim.proofs.Modes.{closes_open, elsewhere}
@@ -22,9 +22,6 @@ can r what keeps calls = can_meet (world r) (owed_in r) what calls (owes (mode r
 
 pub last_right : (r : RunNow) (device : ℕ) → Calls r (BringAgain device) → IsRight r (BusAgain device)
 last_right r device calls = called_right r (BringAgain device) (BusAgain device) calls refl (record { tunnel = elsewhere (mode r) (world r).tunnel; devices = has_last ((world r).devices device) (called_possible r (BringAgain device) calls) })
-
-pub power_right : (r : RunNow) (device : ℕ) → Keeps r → Calls r (PowerReturns device) → IsRight r (On device)
-power_right r device keeps calls = called_right r (PowerReturns device) (On device) calls refl (record { tunnel = elsewhere (mode r) (world r).tunnel; devices = is_there ((world r).devices device) (can r (PowerReturns device) keeps calls) })
 
 pub connection_right : (r : RunNow) (device : ℕ) → Keeps r → Calls r (ConnectionCloses device) → IsRight r (DevClose device)
 connection_right r device keeps calls = called_right r (ConnectionCloses device) (DevClose device) calls refl (record { tunnel = elsewhere (mode r) (world r).tunnel; devices = is_there ((world r).devices device) (can r (ConnectionCloses device) keeps calls) })

@@ -3,7 +3,7 @@ use Rattle.std.proofs.Common.{◌≡◌, ◌⊎◌, inl, inr, ℕ, Bool, true, f
 use Rattle.std.specs.Prelude.{nat_lt}
 use Rattle.std.specs.List.{AllByRecursion, filter}
 use Rattle.knx_model.specs.declared.frames.cemi.Ldata.{Ldata}
-use Rattle.knx_model.specs.DeviceFrames.{Outcome, Torn}
+use Rattle.knx_model.specs.DeviceFrames.{Outcome}
 use Rattle.knx_model.specs.DeviceState.{DeviceState}
 use Rattle.line_model.specs.Counts.{number_at, brings, takes_alone, takes_one, frames_taken, requests_acted}
 use Rattle.line_model.specs.Legal.{MayHappen, OfDevice, GoesSo}
@@ -24,7 +24,7 @@ abbrev pub AtDevice : World → Owed → Type 0
 AtDevice w (DeliverAgain number) = ⊥
 AtDevice w (ReachAgain number) = Unit {0}
 AtDevice w (BringAgain device) = Unit {0}
-AtDevice w (PowerReturns device) = IsThere w device
+AtDevice w (PowerReturns device) = Unit {0}
 AtDevice w (ConnectionCloses device) = IsThere w device
 AtDevice w ChannelCloses = ⊥
 
@@ -113,7 +113,7 @@ at_stays : (w : World) (e : Event) (what : Owed) → AtDevice w what → AtDevic
 at_stays w e (DeliverAgain number) h = absurd h
 at_stays w e (ReachAgain number) h = tt
 at_stays w e (BringAgain device) h = tt
-at_stays w e (PowerReturns device) h = presence w e device ∙ h
+at_stays w e (PowerReturns device) h = tt
 at_stays w e (ConnectionCloses device) h = presence w e device ∙ h
 at_stays w e ChannelCloses h = absurd h
 
@@ -129,7 +129,7 @@ of_device : (P : DeviceState → Type 0) (o : Option DeviceState) → OfDevice P
 of_device P None h = absurd h
 of_device P (Some d) h = refl
 
-goes_there : (w : World) (outcome : Outcome) (o : Option Ldata) (frame : Ldata) → GoesSo w outcome o → o ≡ Some frame → IsThere w frame.destination
+pub goes_there : (w : World) (outcome : Outcome) (o : Option Ldata) (frame : Ldata) → GoesSo w outcome o → o ≡ Some frame → IsThere w frame.destination
 goes_there w outcome None frame h e = absurd h
 goes_there w outcome (Some f) frame h e = let same : f ≡ frame = cc in subst (λ (x : Ldata). IsThere w x.destination) same (of_device _ (w.devices f.destination) h.device)
 
@@ -160,8 +160,7 @@ module _ (mode : Mode) (script : Script) (start : World) (past : List Event) whe
   at_devices (UpRefused age status) may up = cc
   at_devices (Down age) may up = if_owed _ _ _ (λ so. tt)
   at_devices (Bus left_out) may up = carried_there (Bus left_out) (next_frame (replay start past)) (λ frame is. tt)
-  at_devices (BusTorn fresh octets) may up = carried_there (BusTorn fresh octets) (next_frame (replay start past))
-      (λ frame is. (presence (replay start past) (BusTorn fresh octets) frame.destination ∙ goes_there (replay start past) (Torn fresh octets) (next_frame (replay start past)) frame may.devices is, tt))
+  at_devices (BusTorn fresh octets) may up = carried_there (BusTorn fresh octets) (next_frame (replay start past)) (λ frame is. (tt, tt))
   at_devices (BusWorn octets) may up = carried_there (BusWorn octets) (next_frame (replay start past)) (λ frame is. tt)
   at_devices (BusAgain device) may up = closes_there (BusAgain device) device
   at_devices e may up = tt

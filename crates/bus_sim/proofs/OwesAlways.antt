@@ -7,7 +7,7 @@ use Rattle.line_model.specs.Follows.{Follows, IsNext}
 use Rattle.line_model.specs.Legal.{MayHappen, IsLegal}
 use Rattle.line_model.specs.Lines.{Script, drops, repeats_up}
 use Rattle.line_model.specs.Network.{OfSent}
-use Rattle.line_model.specs.Owed.{Owed, DeliverAgain, ReachAgain, BringAgain, PowerReturns, ConnectionCloses, ChannelCloses, owed, owed_if, caused, left_after, is_clients, is_possible, met}
+use Rattle.line_model.specs.Owed.{Owed, DeliverAgain, ReachAgain, BringAgain, PowerReturns, ConnectionCloses, ChannelCloses, owed, owed_if, caused, left_after, is_clients, is_possible, met, waits}
 use Rattle.line_model.specs.Tunnel.{Mode, IsConnectRequest}
 use Rattle.line_model.specs.World.{World, Event, Send, From, Renew, Up, UpRefused, Down, BusAgain, DevClose, GwClose, On, replay, step}
 use Rattle.bus_sim.specs.Owing.{first_of}
@@ -52,6 +52,10 @@ module _ (mode : Mode) (script : Script) (start : World) (past : List Event) whe
   client_calls (From endpoint octets) l may client h = subst (Owes (step (replay start past) (From endpoint octets))) (sym (and_nothing l)) (stays_come endpoint octets l h)
   client_calls Renew l may client h = subst (Owes (step (replay start past) Renew)) (sym (and_nothing l)) (stays_renewed l h)
   client_calls e l may client h = cc
+
+  second_true : (s t : Bool) → (s && t) ≡ true → t ≡ true
+  second_true true t e = e
+  second_true false t e = cc
 
   -- ---- what is called for is met
 
@@ -105,7 +109,7 @@ module _ (mode : Mode) (script : Script) (start : World) (past : List Event) whe
 
   event_calls : (e : Event) (l : List Owed) → MayHappen mode (replay start past) e → IsNext script mode start past l e → Owes (replay start past) l → Owes (step (replay start past) e) (left_after e l ++ caused script start past e)
   event_calls e [] may next h = subst (λ k. Owes (step (replay start past) e) (k ++ caused script start past e)) (sym (none_left (is_clients e))) (calls mode script start past e may)
-  event_calls e (what ∷ rest) may (inl client) h = client_calls e (what ∷ rest) may client h
+  event_calls e (what ∷ rest) may (inl client) h = client_calls e (what ∷ rest) may (second_true (waits what) (is_clients e) client) h
   event_calls e (what ∷ rest) may (inr same) h = subst (λ x. Owes (step (replay start past) x) (left_after x (what ∷ rest) ++ caused script start past x)) (sym same)
       (met_calls what rest (subst (MayHappen mode (replay start past)) same may) h)
 
@@ -117,7 +121,6 @@ owes mode script start (e ∷ past) legal follows = owes_left (replay start (e �
 -- ---- what comes first can be met
 
 abbrev pub CanMeet : World → Owed → Type 0
-CanMeet w (PowerReturns device) = IsThere w device
 CanMeet w (ConnectionCloses device) = IsThere w device
 CanMeet w ChannelCloses = HasChannel w
 CanMeet w what = Unit {0}
@@ -126,8 +129,7 @@ first_can : (w : World) (what : Owed) (rest : List Owed) → Owes w (what ∷ re
 first_can w (DeliverAgain number) rest h = tt
 first_can w (ReachAgain number) rest h = tt
 first_can w (BringAgain device) rest h = tt
-first_can w (PowerReturns device) rest (inl h) = h.0
-first_can w (PowerReturns device) rest (inr h) = absurd (tunnels w _ h)
+first_can w (PowerReturns device) rest h = tt
 first_can w (ConnectionCloses device) rest (inl h) = h.0
 first_can w (ConnectionCloses device) rest (inr h) = absurd (tunnels w _ h)
 first_can w ChannelCloses rest (inl h) = absurd h.0

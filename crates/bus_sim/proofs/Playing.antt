@@ -15,7 +15,7 @@ use Rattle.bus_sim.specs.Begun.{mode_of, start_of}
 use Rattle.bus_sim.specs.RunNow.{RunNow, RunState, seen, start, world as world_of}
 use Rattle.bus_sim.specs.Serving.{AddsAll, EndsSettled, GoesOn, Same, More, gave, given}
 use Rattle.bus_sim.specs.Turned.{PlaysFor, PlaysOn, PlaysUngiven, StopsPlaying}
-use Rattle.bus_sim.specs.Turns.{Gets, Happens, Passes}
+use Rattle.bus_sim.specs.Turns.{Gets, Happens, HappensOnce, Once, Passes, Twice}
 use Rattle.bus_sim.specs.Went.{Went, world}
 use Rattle.bus_sim.proofs.Grows.{passes, timeless}
 
@@ -127,11 +127,15 @@ less_left a b left ms c wait h e le = omega (arith, h, e, le)
 pub until_begins : (old : RunState) (wait : ℕ) (s : PortStory) → PlaysUntil wait wait old old s s
 until_begins old wait s = record { plays = plays_same old old s refl; time = refl }
 
-pub until_happens : (old mid new : RunState) (left wait : ℕ) (s t : PortStory) → PlaysUntil left wait old mid s t → Happens mid new → PlaysUntil left wait old new s t
-until_happens old mid new left wait s t h turn = record {
+until_once : (old mid new : RunState) (left wait : ℕ) (s t : PortStory) → PlaysUntil left wait old mid s t → HappensOnce mid new → PlaysUntil left wait old new s t
+until_once old mid new left wait s t h turn = record {
   plays = plays_event old mid new s t turn.event h.plays turn.went (foreign_own turn.event turn.foreign) (foreign_gives (world mid) turn.event turn.foreign);
   time = as_before (now (world mid)) (now (world new)) left (now (world old)) wait h.time turn.at_once;
 }
+
+pub until_happens : (old mid new : RunState) (left wait : ℕ) (s t : PortStory) → PlaysUntil left wait old mid s t → Happens mid new → PlaysUntil left wait old new s t
+until_happens old mid new left wait s t h (Once turn) = until_once old mid new left wait s t h turn
+until_happens old mid new left wait s t h (Twice between first second) = until_once old between new left wait s t (until_once old mid between left wait s t h first) second
 
 passed : (mid new : RunState) (ms : ℕ) → Passes ms mid new → now (world new) ≡ now (world mid) + ms
 passed mid new ms h = ap (λ (r : RunNow). now (world_of r)) h.went ∙ passes (world mid) ms

@@ -15,10 +15,10 @@ use Rattle.tunnel_sim.specs.declared.gateway.Letter.{Letter}
 use Rattle.bus_sim.specs.Begun.{mode_of, start_of}
 use Rattle.bus_sim.specs.Polls.{EndedSo, GoesOnFrom, StopsWithin}
 use Rattle.bus_sim.specs.RunNow.{RunNow, RunState, mode, seen, start, story, story_of, time, world as world_of}
-use Rattle.bus_sim.specs.Turns.{Gets, Happens, Passes, PassesQuietly}
+use Rattle.bus_sim.specs.Turns.{Gets, Happens, Once, Passes, PassesQuietly, Twice}
 use Rattle.bus_sim.specs.Went.{Went, world}
 use Rattle.bus_sim.proofs.Grows.{timeless, passes}
-use Rattle.bus_sim.proofs.Turning.{goes_more, goes_past}
+use Rattle.bus_sim.proofs.Turning.{goes_more, goes_past, happens_at_once}
 
 pub OnErrAny : {X E : Type 0} (result : Result X E) (P : Type 0) → P → OnErr result P
 OnErrAny (Ok x) P p = tt
@@ -31,6 +31,13 @@ one_more n m few e = omega (arith, few, e)
 pub smaller : (old new : RunState) (e : Event) → length old.events < 2 ^ 63 → Went old e new → 2 ^ 63 - length new.events < 2 ^ 63 - length old.events
 smaller old new e few went = one_more (length old.events) (length new.events) few (ap (λ (r : RunNow). length r.events) went)
 
+two_more : (n m : ℕ) → n < 2 ^ 63 → m ≡ suc (suc n) → 2 ^ 63 - m < 2 ^ 63 - n
+two_more n m few e = omega (arith, few, e)
+
+pub happens_smaller : (old new : RunState) → length old.events < 2 ^ 63 → Happens old new → 2 ^ 63 - length new.events < 2 ^ 63 - length old.events
+happens_smaller old new few (Once h) = smaller old new h.event few h.went
+happens_smaller old new few (Twice mid h k) = two_more (length old.events) (length new.events) few (ap (λ (r : RunNow). length r.events) k.went ∙ ap (λ (r : RunNow). suc (length r.events)) h.went)
+
 -- ---- it goes on
 
 went_on : (a b left c wait : ℕ) → a + left ≡ c + wait → b ≡ a → b + left ≡ c + wait
@@ -40,7 +47,7 @@ past_on : (a b left ms c wait : ℕ) → a + left ≡ c + wait → b ≡ a + ms 
 past_on a b left ms c wait h e le = omega (arith, h, e, le)
 
 pub goes_on : (old mid new : RunState) (left wait : ℕ) → old.begun.clients ≡ One → GoesOnFrom old mid × (now (world mid) + left ≡ now (world old) + wait) → Happens mid new → GoesOnFrom old new × (now (world new) + left ≡ now (world old) + wait)
-goes_on old mid new left wait one before h = (goes_more old mid new one before.0 h, went_on (now (world mid)) (now (world new)) left (now (world old)) wait before.1 h.at_once)
+goes_on old mid new left wait one before h = (goes_more old mid new one before.0 h, went_on (now (world mid)) (now (world new)) left (now (world old)) wait before.1 (happens_at_once mid new h))
 
 passed : (mid new : RunState) (ms : ℕ) → Passes ms mid new → now (world new) ≡ now (world mid) + ms
 passed mid new ms h = ap (λ (r : RunNow). now (world_of r)) h.went ∙ passes (world mid) ms

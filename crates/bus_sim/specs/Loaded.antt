@@ -1,11 +1,12 @@
--- What a simulated line is seen as: its run, and how many calls of it failed. Why a run isn't loaded: a line of the script names a device that
+-- What a simulated line is seen as: its run, and how many calls of it failed or found no memory. Why a run isn't loaded: a line of the script names a device that
 -- isn't listed, and the first such line is told; or there was no memory.
-use Rattle.std.specs.Prelude.{◌≡◌, ◌⊎◌, ℕ, [], Option, Some, None, Err}
+use Rattle.std.specs.Prelude.{◌≡◌, ◌⊎◌, [], Option, Some, None, Err}
 use Rattle.knx_model.specs.declared.refusal.Refused.{Refused}
 use Rattle.knx_model.specs.declared.refusal.Why.{Why}
 use Rattle.knx_model.specs.declared.refusal.Why.TheVariants.{NoMemory}
 use Rattle.knx_model.specs.ScriptText.{first_stranger}
 use Rattle.line_model.specs.declared.outside.link.LinkFault.{LinkFault}
+use Rattle.line_model.specs.declared.outside.link_counts.LinkCounts.{LinkCounts}
 use Rattle.line_model.specs.Polled.{FailsWhere}
 use Rattle.bus_sim.specs.declared.beginning.Beginning.{Beginning}
 use Rattle.bus_sim.specs.declared.bus.Prepared.{Prepared}
@@ -15,7 +16,7 @@ use Rattle.bus_sim.specs.RunNow.{RunNow, RunState, seen}
 
 pub record BusNow : Type 0 where
   pub run : RunNow
-  pub faults : ℕ  -- how many calls of the run failed
+  pub faults : LinkCounts  -- how many calls of the run failed, and how many of those as a link found no memory
 
 -- before a run is loaded nothing has happened on a line without devices
 abbrev pub nothing_run : RunNow
@@ -26,7 +27,7 @@ bus_of None = nothing_run
 bus_of (Some r) = seen r
 
 -- a call of the link answers this fault
-abbrev pub FailsFor : LinkFault → ℕ → ℕ → Type 0
+abbrev pub FailsFor : LinkFault → LinkCounts → LinkCounts → Type 0
 FailsFor fault old new = FailsWhere {X = Unit {0}} (Err fault) old new
 
 -- want of memory is told of line 0; else the refusal is of the first line that names a stranger

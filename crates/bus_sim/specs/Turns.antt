@@ -1,4 +1,5 @@
--- One turn of the line: a client gets a datagram; or something else happens, which takes no time; or time passes.
+-- One turn of the line: a client gets a datagram; or something else happens, which takes no time, be it a torn write and the return of power; or time
+-- passes.
 use Rattle.std.specs.Prelude.{◌≡◌, ℕ, ◌≤◌, ◌<◌, true, slice_get, length}
 use Rattle.line_model.specs.Fresh.{Settled}
 use Rattle.line_model.specs.Legal.{MayHappen}
@@ -22,12 +23,17 @@ pub record Gets (letter : Letter) (old new : RunState) : Type 0 where
   pub number : IsNumber old.begun.clients letter.to
 
 -- something else happens, at once
-pub record Happens (old new : RunState) : Type 0 where
+pub record HappensOnce (old new : RunState) : Type 0 where
   pub event : Event
   pub went : Went old event new
   pub may : MayHappen (mode (seen old)) (world old) event
   pub foreign : is_foreign event ≡ true
   pub at_once : now (world new) ≡ now (world old)
+
+-- or two such events, with nothing between
+pub data Happens (old new : RunState) : Type 0 where
+  Once : HappensOnce old new → Happens old new
+  Twice : (mid : RunState) → HappensOnce old mid → HappensOnce mid new → Happens old new
 
 -- so many milliseconds pass, since nothing but time can go on
 pub record Passes (ms : ℕ) (old new : RunState) : Type 0 where

@@ -72,16 +72,6 @@ impl Run {
         self.bring_again(device)
     }
 
-    /// The power of a device returns.
-    pub fn power_again(&mut self, device: u16) -> Result<(), NoMemory>
-        requires { Calls (seen self.old) (model.PowerReturns device) }
-        ensures happens { OnOk result (Happens self.old self.new) }
-        ensures err { OnErr result (Stays self.old self.new) }
-    {
-        self.keeps();
-        self.power_returns(device)
-    }
-
     /// The connection of a device closes.
     pub fn connection_closes(&mut self, device: u16) -> Result<(), NoMemory>
         requires { Calls (seen self.old) (model.ConnectionCloses device) }

@@ -5,6 +5,7 @@ ghost use Rattle.knx_model.specs.ScriptText.{are_script_lines, first_stranger};
 ghost use Rattle.line_model.specs.Fresh.{IsFresh};
 ghost use Rattle.line_model.specs.Follows.{Follows};
 ghost use Rattle.line_model.specs.Legal.{IsLegal};
+ghost use Rattle.line_model.specs.Polled.{none_failed};
 ghost use Rattle.bus_sim.specs.Begun.{CanLoad, addresses};
 ghost use Rattle.bus_sim.specs.Ended.{FailsAtEnd};
 ghost use Rattle.bus_sim.specs.Loaded.{IsWant, PreparedSo, nothing_run};
@@ -14,18 +15,19 @@ ghost use Rattle.bus_sim.specs.RunNow.{mode, script, start, time, world};
 use crate::beginning::Beginning;
 use crate::run::Run;
 use knx_model::{Image, IndAddr, NoMemory, Refused, ScriptLine, Why};
+use line_model::LinkCounts;
 use line_sim::Device;
 use script_text::Script;
 use std::alloc::Global;
 use std::marker::Model;
 
 /// A whole line in memory, gateway, bus and devices, which does just what a script says, and nothing before a run is loaded: then it is a line
-/// without devices. Contracts see what it began with, its events, the newest first, and how many of the calls of its run failed.
+/// without devices. Contracts see what it began with, its events, the newest first, and how many of the calls of its run failed or found no memory.
 #[derive(Drop)]
 pub struct SimBus {
     pub(crate) alloc: Global,
     pub(crate) run: Option<Run>,
-    pub(crate) faults: u64,
+    pub(crate) faults: LinkCounts,
 }
 
 impl Model for SimBus {
@@ -36,7 +38,7 @@ impl Model for SimBus {
 
     ghost view = { λ b. record { run = bus_of b.run; faults = b.faults } };
 
-    ghost invariant = { λ b. FailsAtEnd b.faults (bus_of b.run) };
+    ghost invariant = { λ b. FailsAtEnd b.faults.failed (bus_of b.run) };
 }
 
 impl SimBus {
@@ -44,12 +46,12 @@ impl SimBus {
 
     /// A line without devices on which nothing has happened. It takes no memory.
     pub fn empty(alloc: Global) -> SimBus
-        ensures { result ≡ record { run = nothing_run; faults = 0 } }
+        ensures { result ≡ record { run = nothing_run; faults = none_failed } }
     {
         SimBus {
             alloc,
             run: None,
-            faults: 0,
+            faults: LinkCounts::none(),
         }
     }
 
@@ -68,12 +70,12 @@ impl SimBus {
         ensures known { OnOk result (first_stranger (addresses devices.now) script.now.lines ≡ None) }
         ensures refused { IfErr result (IsRefusedFor (first_stranger (addresses devices.now) script.now.lines)) }
         ensures err { OnErr result (self.new ≡ self.old) }
-        ensures faults { OnOk result (self.new.faults ≡ 0) }
+        ensures faults { OnOk result (self.new.faults ≡ none_failed) }
     {
         match prepare(alloc, tunnel, devices, script.lines.as_slice()) {
             Ok(Prepared::Begins(run)) => {
                 self.run = Some(run);
-                self.faults = 0;
+                self.faults = LinkCounts::none();
                 Ok(())
             }
             Ok(Prepared::Stranger(refused)) => Err(refused),
@@ -94,7 +96,7 @@ impl SimBus {
         ensures fresh { IsFresh (start self.now.run) }
         ensures legal { IsLegal (mode self.now.run) (start self.now.run) self.now.run.events }
         ensures follows { Follows (script self.now.run) (mode self.now.run) (start self.now.run) self.now.run.events }
-        ensures faults { FailsAtEnd self.now.faults self.now.run }
+        ensures faults { FailsAtEnd self.now.faults.failed self.now.run }
     {
         if let Some(run) = &self.run {
             run.keeps();

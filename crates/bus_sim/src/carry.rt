@@ -8,15 +8,15 @@ ghost use Rattle.line_model.specs.World.{Bus, BusTorn, BusWorn, is_among, next_f
 ghost use Rattle.line_model.specs.Deliveries.{worn_if};
 ghost use Rattle.line_sim.specs.Line.{LineNow, effect_due, write_due};
 ghost use Rattle.bus_sim.specs.RunNow.{NothingCalled, seen};
-ghost use Rattle.bus_sim.specs.Went.{Stays, Went, IsRight, world};
+ghost use Rattle.bus_sim.specs.Went.{Carries, Stays, Went, IsRight, world};
 ghost use Rattle.line_model.specs.StartOf.{line_of};
 ghost use Rattle.bus_sim.specs.Choices.{carried, carried_so, is_lost_for, written_so, CanGo};
 
 use crate::called::{connection_closes, frame_again};
 use crate::counts::Met;
 use crate::happened::Happened;
-use crate::owed::{Caused, NOTHING, Owed};
-use crate::room::make_room;
+use crate::owed::Caused;
+use crate::room::{make_room, make_room_for};
 use crate::run::Run;
 use knx_model::{IndAddr, Ldata, NoMemory, WriteKind};
 
@@ -32,11 +32,11 @@ pub enum Carriage {
 }
 
 impl Run {
-    /// The client's frame goes over the bus as the script wants it. At `Err` nothing has happened.
+    /// The client's frame goes over the bus as the script wants it, and after a torn write power returns. At `Err` nothing has happened.
     pub fn carry(&mut self, frame: &Ldata) -> Result<(), NoMemory>
         requires due { Some frame.now ≡ next_frame (world self.old) }
         requires free { NothingCalled (seen self.old) }
-        ensures went { OnOk result (Went self.old (carried self.old frame.now) self.new) }
+        ensures carries { OnOk result (Carries frame.now self.old (carried self.old frame.now) self.new) }
         ensures right { OnOk result (IsRight self.old (carried self.old frame.now)) }
         ensures err { OnErr result (Stays self.old self.new) }
     {
@@ -116,46 +116,40 @@ impl Run {
             wrote,
         };
         self.counts.add(device, met);
-        let caused = Caused {
-            first,
-            second,
-            ..NOTHING
-        };
+        let caused = Caused { first, second };
         self.owed.meet(caused, &self.line, self.begun.clients);
         self.events.push(&Happened::Bus(lost));
         Ok(())
     }
 
-    /// The device that it is for takes it torn, after so many octets of the write.
+    /// The device that it is for takes it torn, after so many octets of the write, and its power returns at once: nothing comes between.
     fn bus_torn(&mut self, frame: &Ldata, k: u32) -> Result<(), NoMemory>
         requires due { Some frame.now ≡ next_frame (world self.old) }
         requires write { is_some (write_due self.old.line) ≡ true }
         requires free { NothingCalled (seen self.old) }
         requires so { BusTorn (nat_lt 0 k) (written_front (effect_due self.old.line) k) ≡ carried self.old frame.now }
-        ensures went { OnOk result (Went self.old (BusTorn (nat_lt 0 k) (written_front (effect_due self.old.line) k)) self.new) }
+        ensures carries { OnOk result (Carries frame.now self.old (BusTorn (nat_lt 0 k) (written_front (effect_due self.old.line) k)) self.new) }
         ensures right { OnOk result (IsRight self.old (BusTorn (nat_lt 0 k) (written_front (effect_due self.old.line) k))) }
         ensures err { OnErr result (Stays self.old self.new) }
     {
         let octets = self.line.torn_octets(self.alloc, k)?;
-        make_room(&mut self.events, &mut self.owed)?;
+        make_room_for(&mut self.events, &mut self.owed, 2)?;
         self.line.names();
         let device = frame.destination;
         let counts = self.counts.of(device);
         let n = counts.to.saturating_add(1);
         let m = counts.taken.saturating_add(1);
-        let first = Some(Owed::PowerReturns(device));
-        let second = frame_again(&self.index, device, true, n);
-        let third = connection_closes(&self.index, device, true, m);
+        let first = frame_again(&self.index, device, true, n);
+        let second = connection_closes(&self.index, device, true, m);
         self.line.bus_torn(k)?;
         self.counts.add(device, WRITTEN);
-        let caused = Caused {
-            first,
-            second,
-            third,
-        };
+        let caused = Caused { first, second };
         self.owed.meet(caused, &self.line, self.begun.clients);
         self.events
             .push(&Happened::BusTorn(k > 0, octets.as_slice()));
+        self.line.on(device);
+        self.owed.wait(&self.line, self.begun.clients);
+        self.events.push(&Happened::On(device));
         Ok(())
     }
 
@@ -180,11 +174,7 @@ impl Run {
         let second = connection_closes(&self.index, device, true, m);
         self.line.bus_worn(self.alloc)?;
         self.counts.add(device, WRITTEN);
-        let caused = Caused {
-            first,
-            second,
-            ..NOTHING
-        };
+        let caused = Caused { first, second };
         self.owed.meet(caused, &self.line, self.begun.clients);
         self.events.push(&Happened::BusWorn(octets.as_slice()));
         Ok(())

@@ -100,11 +100,7 @@ impl Run {
         self.line.up(age)?;
         let second = channel_closes(&self.index, before, self.line.acted());
         self.counts.connect_if(connects);
-        let caused = Caused {
-            first,
-            second,
-            ..NOTHING
-        };
+        let caused = Caused { first, second };
         self.owed.meet(caused, &self.line, self.begun.clients);
         self.events.push(&Happened::Up(age as u64));
         Ok(())

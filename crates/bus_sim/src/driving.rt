@@ -2,7 +2,7 @@
 
 ghost use Rattle.std.specs.Prelude.{◌≡◌, ◌≤◌, ◌⊎◌, ℕ, IfErr, IfOk, OnErr, OnOk};
 ghost use Rattle.knx_model.specs.Outside.{Rose};
-ghost use Rattle.line_model.specs.Polled.{PollsAs};
+ghost use Rattle.line_model.specs.Polled.{NeverFall, PollsAs};
 ghost use Rattle.line_model.specs.World.{Send, Renew};
 ghost use Rattle.bus_sim.specs.Ended.{IsAtEnd, IsServing, StopsFor};
 ghost use Rattle.bus_sim.specs.Loaded.{FailsFor, bus_of, nothing_run};
@@ -67,15 +67,18 @@ impl SimBus {
         polled
     }
 
-    /// What a call answers that stopped so: the link failed, once more, where it wasn't for want of memory.
+    /// What a call answers that stopped so: the link failed, or found no memory, once more.
     pub(crate) fn fault_of(&mut self, stopped: Stopped) -> LinkFault
         requires { StopsFor stopped self.old.run }
         ensures run { self.new.run ≡ self.old.run }
-        ensures count { self.old.faults ≤ self.new.faults }
+        ensures count { NeverFall self.old.faults self.new.faults }
         ensures cause { FailsFor result self.old.faults self.new.faults }
     {
         match stopped {
-            Stopped::NoMemory(want) => LinkFault::NoMemory(want),
+            Stopped::NoMemory(want) => {
+                self.wants();
+                LinkFault::NoMemory(want)
+            }
             Stopped::AtEnd | Stopped::Serves => {
                 self.fails();
                 LinkFault::Failed
@@ -87,8 +90,8 @@ impl SimBus {
     pub(crate) fn port_fault_of(&mut self, broken: Broken) -> PortFault
         requires { broken ≡ AtEnd → IsAtEnd self.old.run }
         ensures run { self.new.run ≡ self.old.run }
-        ensures cause { (before after : ℕ) → IsCausedBy broken before after self.old.run → FailsAt result before after self.old.faults self.new.faults self.new.run }
-        ensures faults { self.old.faults ≤ self.new.faults }
+        ensures cause { (before after : ℕ) → IsCausedBy broken before after self.old.run → FailsAt result before after self.old.faults.failed self.new.faults.failed self.new.run }
+        ensures faults { self.old.faults.failed ≤ self.new.faults.failed }
     {
         match broken {
             Broken::NoMemory(want) => PortFault::NoMemory(want),
@@ -104,10 +107,19 @@ impl SimBus {
     fn fails(&mut self)
         requires { IsAtEnd self.old.run ⊎ IsServing self.old.run }
         ensures run { self.new.run ≡ self.old.run }
-        ensures count { self.old.faults ≤ self.new.faults }
-        ensures rose { Rose self.old.faults self.new.faults }
+        ensures count { NeverFall self.old.faults self.new.faults }
+        ensures rose { Rose self.old.faults.failed self.new.faults.failed }
     {
-        self.faults = self.faults.saturating_add(1);
+        self.faults.failed = self.faults.failed.saturating_add(1);
+    }
+
+    /// One more call found no memory.
+    fn wants(&mut self)
+        ensures run { self.new.run ≡ self.old.run }
+        ensures count { NeverFall self.old.faults self.new.faults }
+        ensures rose { Rose self.old.faults.wanting self.new.faults.wanting }
+    {
+        self.faults.wanting = self.faults.wanting.saturating_add(1);
     }
 }
 

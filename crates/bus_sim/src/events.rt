@@ -35,20 +35,21 @@ impl Events {
         }
     }
 
-    /// Takes room for one more event. A vector has fewer than 2^63 places.
-    pub fn reserve(&mut self) -> Result<(), NoMemory>
+    /// Takes room for so many more events. A vector has fewer than 2^63 places.
+    pub fn reserve(&mut self, more: usize) -> Result<(), NoMemory>
         ensures list { self.new.list ≡ self.old.list }
-        ensures room { OnOk result (1 ≤ self.new.room) }
-        ensures few { OnOk result (length self.old.list + 1 < 2 ^ 63) }
+        ensures room { OnOk result (more ≤ self.new.room) }
+        ensures few { OnOk result (length self.old.list + more < 2 ^ 63) }
     {
-        self.items.reserve(1)?;
+        self.items.reserve(more)?;
         Ok(())
     }
 
     /// An event happened. There is room for it.
     pub fn push(&mut self, event: &Happened<'_>)
         requires { 1 ≤ self.old.room }
-        ensures { self.new.list ≡ event_of event.now ∷ self.old.list }
+        ensures list { self.new.list ≡ event_of event.now ∷ self.old.list }
+        ensures room { self.old.room ≤ self.new.room + 1 }
     {
         push_within(&mut self.items, Noted::of(event));
     }
@@ -71,7 +72,9 @@ fn count(items: &Vec<Noted>) -> u64
 /// Puts an event behind the others. There is room for it.
 fn push_within(items: &mut Vec<Noted>, event: Noted)
     requires { vec_len items.old < vec_capacity items.old }
-    ensures { items.new.items ≡ items.old.items ++ event ∷ [] }
+    ensures items { items.new.items ≡ items.old.items ++ event ∷ [] }
+    ensures len { vec_len items.new ≤ vec_len items.old + 1 }
+    ensures capacity { vec_capacity items.old ≤ vec_capacity items.new }
 {
     let _ = items.push(event);
 }

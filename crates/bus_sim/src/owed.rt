@@ -6,7 +6,7 @@ ghost use Rattle.line_model.specs.Owed.{is_possible};
 ghost use Rattle.line_model.specs.World.{World};
 ghost use Rattle.line_sim.specs.Line.{AreCounted, IsNow};
 ghost use Rattle.bus_sim.specs.Begun.{mode_of};
-ghost use Rattle.bus_sim.specs.Owing.{all_caused, first_of, meant};
+ghost use Rattle.bus_sim.specs.Owing.{LetsClient, all_caused, first_of, meant};
 
 use crate::clients::Clients;
 use crate::reaching::again_down;
@@ -15,7 +15,7 @@ use line_sim::Line;
 use std::alloc::Global;
 use std::marker::Model;
 
-/// What the script calls for.
+/// What the script calls for, but for power that returns: that comes at once.
 #[derive(Clone, Copy, Drop)]
 pub enum Owed {
     /// The client's datagram of this number comes to the gateway again.
@@ -24,31 +24,27 @@ pub enum Owed {
     ReachAgain(u64),
     /// A device gets its last frame again.
     BringAgain(u16),
-    /// A device has power again.
-    PowerReturns(u16),
     /// A device closes its connection.
     ConnectionCloses(u16),
     /// The gateway closes its channel.
     ChannelCloses,
 }
 
-/// What an event calls for: at most three things, in this order.
+/// What an event calls for: at most two things, in this order.
 #[derive(Clone, Copy, Drop)]
 pub struct Caused {
     pub first: Option<Owed>,
     pub second: Option<Owed>,
-    pub third: Option<Owed>,
 }
 
 /// Nothing.
 pub const NOTHING: Caused = Caused {
     first: None,
     second: None,
-    third: None,
 };
 
 /// The most that an event calls for.
-const MOST: usize = 3;
+const MOST: usize = 2;
 
 /// What is called for and hasn't happened yet, the first one first.
 #[derive(Drop)]
@@ -78,7 +74,7 @@ impl Owing {
     /// Takes memory for what one event may call for.
     pub fn reserve(&mut self) -> Result<(), NoMemory>
         ensures list { self.new.list ≡ self.old.list }
-        ensures room { OnOk result (3 ≤ self.new.room) }
+        ensures room { OnOk result (2 ≤ self.new.room) }
     {
         self.items.reserve(MOST)?;
         Ok(())
@@ -93,7 +89,7 @@ impl Owing {
 
     /// An event of the line met what came first, where there was anything, and calls for more. Of all that what isn't possible any more is dropped.
     pub fn meet(&mut self, caused: Caused, line: &Line, clients: Clients)
-        requires { 3 ≤ self.old.room }
+        requires { 2 ≤ self.old.room }
         ensures { (w : World) → IsNow line.now w → AreCounted w → self.new.list ≡ filter (is_possible (mode_of clients) w) (drop 1 self.old.list ++ all_caused caused) }
     {
         if !self.items.is_empty() {
@@ -103,9 +99,11 @@ impl Owing {
         drop_impossible(&mut self.items, line, clients);
     }
 
-    /// The client did something: what isn't possible any more is dropped.
+    /// Nothing of it was met, since the client did something or power returned: what isn't possible any more is dropped. The client may go before
+    /// what comes first.
     pub fn wait(&mut self, line: &Line, clients: Clients)
-        ensures { (w : World) → IsNow line.now w → AreCounted w → self.new.list ≡ filter (is_possible (mode_of clients) w) self.old.list }
+        ensures lets { LetsClient self.old.list }
+        ensures list { (w : World) → IsNow line.now w → AreCounted w → self.new.list ≡ filter (is_possible (mode_of clients) w) self.old.list }
     {
         drop_impossible(&mut self.items, line, clients);
     }
@@ -113,12 +111,11 @@ impl Owing {
 
 /// All that an event calls for comes behind the others. There is room for it.
 fn join(items: &mut Vec<Owed>, caused: Caused)
-    requires { vec_len items.old + 3 ≤ vec_capacity items.old }
+    requires { vec_len items.old + 2 ≤ vec_capacity items.old }
     ensures { map meant items.new.items ≡ map meant items.old.items ++ all_caused caused }
 {
     join_one(items, caused.first);
     join_one(items, caused.second);
-    join_one(items, caused.third);
 }
 
 fn join_one(items: &mut Vec<Owed>, owed: Option<Owed>)
@@ -148,6 +145,6 @@ fn is_possible(line: &Line, clients: Clients, owed: Owed) -> bool
         Owed::ReachAgain(number) => again_down(line, clients, number).is_some(),
         Owed::BringAgain(device) => line.last(device).is_some(),
         Owed::ConnectionCloses(device) => line.is_connected(device),
-        Owed::PowerReturns(_) | Owed::ChannelCloses => true,
+        Owed::ChannelCloses => true,
     }
 }

@@ -1,8 +1,8 @@
-//! What devices and the gateway do of themselves, power that returns, and the time.
+//! What devices and the gateway do of themselves, and the time.
 
 ghost use Rattle.std.specs.Prelude.{◌≡◌, ◌+◌, ◌≤◌, [], Some, OnOk, OnErr};
 ghost use Rattle.knx_model.specs.Connection.{last_time};
-ghost use Rattle.line_model.specs.World.{BusAgain, DevSend, DevRepeat, DevClose, GwRepeat, GwClose, On, Pass, now};
+ghost use Rattle.line_model.specs.World.{BusAgain, DevSend, DevRepeat, DevClose, GwRepeat, GwClose, Pass, now};
 ghost use Rattle.line_sim.specs.Places.{IsDue};
 ghost use Rattle.tunnel_sim.specs.Tunnels.{at_gateway};
 ghost use Rattle.tunnel_sim.specs.Gateways.{due_of};
@@ -82,19 +82,6 @@ impl Run {
         self.line.dev_close(self.alloc, device)?;
         self.owed.meet(NOTHING, &self.line, self.begun.clients);
         self.events.push(&Happened::DevClose(device));
-        Ok(())
-    }
-
-    /// A device has power again. At `Err` nothing has happened.
-    pub fn power_returns(&mut self, device: u16) -> Result<(), NoMemory>
-        requires { IsRight self.old (On device) }
-        ensures went { OnOk result (Went self.old (On device) self.new) }
-        ensures err { OnErr result (Stays self.old self.new) }
-    {
-        make_room(&mut self.events, &mut self.owed)?;
-        self.line.on(device);
-        self.owed.meet(NOTHING, &self.line, self.begun.clients);
-        self.events.push(&Happened::On(device));
         Ok(())
     }
 

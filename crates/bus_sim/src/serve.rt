@@ -31,12 +31,12 @@ impl SimBus {
     ) -> Result<Served, PortFault>
         ensures served { IfOk result (λ served. ServedSo served turns self.old.run self.new.run (P.story port.old) (P.story port.new)) }
         ensures broken { OnErr result (BreaksOff turns self.old.run self.new.run (P.story port.old) (P.story port.new)) }
-        ensures cause { IfErr result (λ fault. FailsAt fault (P.faults port.old) (P.faults port.new) self.old.faults self.new.faults self.new.run) }
+        ensures cause { IfErr result (λ fault. FailsAt fault (P.faults port.old) (P.faults port.new) self.old.faults.failed self.new.faults.failed self.new.run) }
         ensures sound { OnOk result (self.new.faults ≡ self.old.faults) }
         ensures count { P.faults port.old ≤ P.faults port.new }
         ensures start { start self.new.run ≡ start self.old.run }
         ensures script { script self.new.run ≡ script self.old.run }
-        ensures faults { self.old.faults ≤ self.new.faults }
+        ensures faults { self.old.faults.failed ≤ self.new.faults.failed }
     {
         let mut run = take_run(self.alloc, &mut self.run)?;
         let served = run.serve(alloc, port, turns);

@@ -18,7 +18,7 @@ use tunnel_sim::Letter;
 pub enum Turn {
     /// A client got this datagram.
     Got(Letter),
-    /// Something else happened, at once.
+    /// Something else happened, at once: one event, or a torn write and the return of power.
     Went,
     /// So many milliseconds passed, at least one, until something was due.
     Passed(u32),
@@ -56,10 +56,6 @@ impl Run {
             Owed::ReachAgain(number) => Ok(Turn::Got(self.reach_again(number)?)),
             Owed::BringAgain(device) => {
                 self.frame_again(device)?;
-                Ok(Turn::Went)
-            }
-            Owed::PowerReturns(device) => {
-                self.power_again(device)?;
                 Ok(Turn::Went)
             }
             Owed::ConnectionCloses(device) => {

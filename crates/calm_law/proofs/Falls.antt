@@ -13,8 +13,8 @@ use Rattle.line_model.specs.Network.{Sent, changed_at, once_more}
 use Rattle.line_model.specs.Gateway.{next_number}
 use Rattle.line_model.specs.Tunnel.{Tunnel, Down as Arrives, after}
 use Rattle.line_model.specs.Record.{Entry, Item, Got, entry, got, got_in}
-use Rattle.line_model.specs.ChannelLost.{expected, last_frame, is_given_up, is_unconfirmed, is_dead, is_lost}
-use Rattle.line_model.specs.ClientView.{ClientChannel, Sought, Open, Deed, Takes, Loses, Nothing, as_counted, counts, deed, deed_in, after_entry, channel}
+use Rattle.line_model.specs.ChannelLost.{expected, last_frame, is_confirmation_of, is_given_up, is_unconfirmed, is_dead, is_lost}
+use Rattle.line_model.specs.ClientView.{ClientChannel, Sought, Open, Deed, Takes, Loses, Nothing, own_address, is_stray, as_counted, counts, deed, deed_in, after_entry, channel}
 use Rattle.line_model.specs.Renews.{owed, owed_in, calls_for, IsOwed}
 use Rattle.line_model.specs.Deliveries.{is_under_way}
 use Rattle.calm_law.specs.CalmTunnel.{next_down}
@@ -22,7 +22,7 @@ use Rattle.calm_law.proofs.Ways.{Way, Took, taken, none_left}
 use Rattle.calm_law.proofs.Tokens.{Rise, Fall, Made, Ack, Note, Alive, Left, Downs, fallen, read_down, made_of, ack_of, note_of, alive_of, left_of, same_last, only_last, not_last, downs_none}
 use Rattle.calm_law.proofs.Seen.{Seen, IsOpen, Up, seen, seen_after, lapsed, ended, not_lost, up_got, and_no, neither}
 use Rattle.calm_law.proofs.Owning.{own_counts, same_con}
-use Rattle.calm_law.proofs.State.{Door, Shut, Knocked, Replied, Ajar, Stage, Rising, Riding, Past, Under, Free, Coming, Owed, Back, Pulse, Calm, Beating, Echo, Nums, acks_at, notes_at, alives_at, ack_if, makers_at, owed_at, sent_at, taken_at, beating_at, seen_at, is_con_frame, one_if, awaited, flies, cons_in, Paced, flies_of, queue_of, Steps, Early, IsFree, IsUnseen, Opens, Goes, Going, going, tunnel_at}
+use Rattle.calm_law.proofs.State.{Door, Shut, Knocked, Replied, Ajar, Stage, Rising, Riding, Past, Under, Free, Coming, Owed, Back, Pulse, Calm, Beating, Echo, Nums, acks_at, notes_at, alives_at, ack_if, makers_at, owed_at, sent_at, taken_at, beating_at, seen_at, is_con_frame, one_if, awaited, flies, cons_in, Paced, flies_of, queue_of, channel_at, the_channel, Steps, Strays, Early, IsFree, IsUnseen, Opens, Goes, Going, going, tunnel_at}
 use Rattle.calm_law.proofs.Sends.{MayDo, not_yet}
 use Rattle.calm_law.proofs.Rises.{comes, downs_short, one_maker}
 
@@ -163,13 +163,13 @@ module _ (r : List Entry) (octets : List ℕ) (present : ℕ) (up down down' : L
 
   plain_got : (l : List Entry) (f : IpFrame) → is_lost 1 l x ≡ false → read_down octets ≡ Some f → request_in (Some f) ≡ None → deed (Open 1 l) x ≡ Nothing
   unfolding deed
-  plain_got l f lost d e = kept_deed (is_lost 1 l x) (as_counted (last_frame 1 l) (deed_in 1 l x)) lost ∙ (let g : deed_in 1 l x ≡ Nothing = rw d (rw e refl) in ap (as_counted (last_frame 1 l)) g)
+  plain_got l f lost d e = kept_deed (is_lost 1 l x) (as_counted (own_address l) (last_frame 1 l) (deed_in 1 l x)) lost ∙ (let g : deed_in 1 l x ≡ Nothing = rw d (rw e refl) in ap (as_counted (own_address l) (last_frame 1 l)) g)
 
-  takes_got : (l : List Entry) (o : ℕ) (cemi : List ℕ) → is_lost 1 l x ≡ false → read_down octets ≡ Some (TunnellingRequest 1 o cemi) → expected 1 l ≡ o → counts (last_frame 1 l) (ldata_in cemi) ≡ true → deed (Open 1 l) x ≡ Takes cemi
+  takes_got : (l : List Entry) (o : ℕ) (cemi : List ℕ) → is_lost 1 l x ≡ false → read_down octets ≡ Some (TunnellingRequest 1 o cemi) → expected 1 l ≡ o → counts (own_address l) (last_frame 1 l) (ldata_in cemi) ≡ true → deed (Open 1 l) x ≡ Takes cemi
   unfolding deed
   takes_got l o cemi lost d e counted =
-      kept_deed (is_lost 1 l x) (as_counted (last_frame 1 l) (deed_in 1 l x)) lost
-      ∙ (let g : deed_in 1 l x ≡ Takes cemi = rw d (rw (e, eq-eqb o o refl) refl) in ap (as_counted (last_frame 1 l)) g) ∙ ap (λ b. cond {A = Deed} b (Takes cemi) Nothing) counted
+      kept_deed (is_lost 1 l x) (as_counted (own_address l) (last_frame 1 l) (deed_in 1 l x)) lost
+      ∙ (let g : deed_in 1 l x ≡ Takes cemi = rw d (rw (e, eq-eqb o o refl) refl) in ap (as_counted (own_address l) (last_frame 1 l)) g) ∙ ap (λ b. cond {A = Deed} b (Takes cemi) Nothing) counted
 
   lost_not : (leaves : Bool) (stage : Stage) (under : Under) (pulse : Pulse) (m : Nums) (ups : List Rise) (downs : List Fall) (f : IpFrame) → (h : Here (Ajar leaves) stage under pulse m ups downs) → read_down octets ≡ Some f
       → ((left : Bool) → ended (seen_at stage under pulse m now) left now (Some f) ≡ false) → is_lost 1 (h.door_is.open_.first ∷ h.door_is.open_.rest) x ≡ false
@@ -362,16 +362,16 @@ module _ (r : List Entry) (octets : List ℕ) (present : ℕ) (up down down' : L
   con_acked false confirmed acked h = h
 
   note_got : (door : Door) (stage : Stage) (under : Under) (pulse : Pulse) (m : Nums) (ups : List Rise) (n : ℕ) (cemi : List ℕ) (before : List Fall) → Here door stage under pulse m ups (before ++ Note n cemi ∷ []) → LeftWay before
-      → read_down octets ≡ Some (TunnellingRequest 1 n cemi) → After door stage under m
-  note_got door stage Free pulse m ups n cemi before h way d = absurd (not_last note_of before (Note n cemi) (n, cemi) refl h.downs_are.notes_are)
-  note_got door stage (Owed y) pulse m ups n cemi before h way d = absurd (not_last note_of before (Note n cemi) (n, cemi) refl h.downs_are.notes_are)
-  note_got door stage (Back y) pulse m ups n cemi before h way d = absurd (not_last note_of before (Note n cemi) (n, cemi) refl h.downs_are.notes_are)
-  note_got Shut stage (Coming y) pulse m ups n cemi before h way d = absurd h.door_is.3
-  note_got Knocked stage (Coming y) pulse m ups n cemi before h way d = absurd h.door_is.2
-  note_got Replied stage (Coming y) pulse m ups n cemi before h way d =
+      → read_down octets ≡ Some (TunnellingRequest 1 n cemi) → Strays E F (channel r) (channel_at door (the_channel stage under m now)) → After door stage under m
+  note_got door stage Free pulse m ups n cemi before h way d strays = absurd (not_last note_of before (Note n cemi) (n, cemi) refl h.downs_are.notes_are)
+  note_got door stage (Owed y) pulse m ups n cemi before h way d strays = absurd (not_last note_of before (Note n cemi) (n, cemi) refl h.downs_are.notes_are)
+  note_got door stage (Back y) pulse m ups n cemi before h way d strays = absurd (not_last note_of before (Note n cemi) (n, cemi) refl h.downs_are.notes_are)
+  note_got Shut stage (Coming y) pulse m ups n cemi before h way d strays = absurd h.door_is.3
+  note_got Knocked stage (Coming y) pulse m ups n cemi before h way d strays = absurd h.door_is.2
+  note_got Replied stage (Coming y) pulse m ups n cemi before h way d strays =
       let first = replied_first (before ++ Note n cemi ∷ []) before (Note n cemi) refl h.door_is.3 in
       absurd (let e : made_of (Note n cemi) ≡ made_of (Made first.0) = ap made_of first.1 in cc)
-  note_got (Ajar leaves) stage (Coming y) pulse m ups n cemi before h way d =
+  note_got (Ajar leaves) stage (Coming y) pulse m ups n cemi before h way d strays =
       let same : ◌≡◌ {A = ℕ × List ℕ} (n, cemi) (m.put, cemi_octets y) = (only_last note_of before (Note n cemi) (n, cemi) (m.put, cemi_octets y) refl h.downs_are.notes_are).1 in
       let n_is : n ≡ m.put = ap (λ z. z.0) same in
       let cemi_is : cemi ≡ cemi_octets y = ap (λ z. z.1) same in
@@ -399,21 +399,28 @@ module _ (r : List Entry) (octets : List ℕ) (present : ℕ) (up down down' : L
         since = h.since;
         beat = h.beat;
         pace = paced_got r (take 512 octets) now h.pace;
-        rides = (let lost = lost_not leaves stage (Coming y) pulse m ups (before ++ Note n cemi ∷ []) (TunnellingRequest 1 m.put (cemi_octets y)) h d2 (λ left. and_no left) in
-            let s : Steps E F (Takes (cemi_octets y)) = subst (λ z. Steps E F z) (ap (λ c. deed c x) h.door_is.open_.is ∙ takes_got l m.put (cemi_octets y) lost d2 exp (ap (λ (z : Seen). counts z.last (ldata_in (cemi_octets y))) h.door_is.open_.says ∙ own_counts m.last y h.own.1.0)) to in
-            s (flies_of stage) y waiting refl h.rides);
+        rides = by_stray l (is_stray (own_address l) (ldata_in (cemi_octets y))) refl h.door_is.open_.is (lost_not leaves stage (Coming y) pulse m ups (before ++ Note n cemi ∷ []) (TunnellingRequest 1 m.put (cemi_octets y)) h d2 (λ left. and_no left)) d2 exp
+            (ap (λ (z : Seen). not (is_con_frame y) || is_confirmation_of z.last (ldata_in (cemi_octets y))) h.door_is.open_.says ∙ own_counts m.last y h.own.1.0);
       })
     where
+      by_stray : (l : List Entry) (b : Bool) → is_stray (own_address l) (ldata_in (cemi_octets y)) ≡ b → channel r ≡ Open 1 l → is_lost 1 l x ≡ false → read_down octets ≡ Some (TunnellingRequest 1 m.put (cemi_octets y)) → expected 1 l ≡ m.put
+          → (not (is_con_frame y) || is_confirmation_of (last_frame 1 l) (ldata_in (cemi_octets y))) ≡ true → F (flies_of stage) waiting
+      by_stray l true stray at lost d2 exp own = strays l y at refl stray (flies_of stage) waiting h.rides
+      by_stray l false stray at lost d2 exp own =
+          let counted : counts (own_address l) (last_frame 1 l) (ldata_in (cemi_octets y)) ≡ true = ap (λ b. not b && (not (is_con_frame y) || is_confirmation_of (last_frame 1 l) (ldata_in (cemi_octets y)))) stray ∙ own in
+          let s : Steps E F (Takes (cemi_octets y)) = subst (λ z. Steps E F z) (ap (λ c. deed c x) at ∙ takes_got l m.put (cemi_octets y) lost d2 exp counted) to in
+          s (flies_of stage) y waiting refl h.rides
+
       called : (l : List Entry) → expected 1 l ≡ m.put → calls_for 1 l (request_in (Some (TunnellingRequest 1 m.put (cemi_octets y)))) ≡ Some (TunnellingAck 1 m.put 0)
       called l e = rw (e, eq-eqb m.put m.put refl) refl
 
   pub got_kept : (door : Door) (stage : Stage) (under : Under) (pulse : Pulse) (m : Nums) (ups : List Rise) (before : List Fall) (last : Fall) → Here door stage under pulse m ups (before ++ last ∷ []) → LeftWay before
-      → read_down octets ≡ Some (fallen last) → After door stage under m
-  got_kept door stage under pulse m ups before (Made t) h way d = made_got door stage under pulse m ups t before h way d
-  got_kept door stage under pulse m ups before (Ack n) h way d = ack_got door stage under pulse m ups n before h way d
-  got_kept door stage under pulse m ups before (Note n cemi) h way d = note_got door stage under pulse m ups n cemi before h way d
-  got_kept door stage under pulse m ups before Alive h way d = alive_got door stage under pulse m ups before h way d
-  got_kept door stage under pulse m ups before (Left status) h way d = absurd (not_last left_of before (Left status) status refl h.downs_are.lefts_are)
+      → read_down octets ≡ Some (fallen last) → Strays E F (channel r) (channel_at door (the_channel stage under m now)) → After door stage under m
+  got_kept door stage under pulse m ups before (Made t) h way d strays = made_got door stage under pulse m ups t before h way d
+  got_kept door stage under pulse m ups before (Ack n) h way d strays = ack_got door stage under pulse m ups n before h way d
+  got_kept door stage under pulse m ups before (Note n cemi) h way d strays = note_got door stage under pulse m ups n cemi before h way d strays
+  got_kept door stage under pulse m ups before Alive h way d strays = alive_got door stage under pulse m ups before h way d
+  got_kept door stage under pulse m ups before (Left status) h way d strays = absurd (not_last left_of before (Left status) status refl h.downs_are.lefts_are)
 
 -- ---- the oldest one comes
 
@@ -447,8 +454,8 @@ module _ (E F : Option Ldata → List Ldata → Type 0) (r : List Entry) (presen
       free (Back y) f = absurd f
 
   down_open : (door : Door) (stage : Stage) (under : Under) (pulse : Pulse) (m : Nums) (ups : List Rise) (downs : List Fall) → present ≡ 1 → Now door stage under pulse m ups downs → (age : ℕ) → next_down (before_it door stage under m) ≡ Some age
-      → ((item : Item) → got (slice_get down age) ≡ Some item → MayDo r (entry item now)) → ((item : Item) → got (slice_get down age) ≡ Some item → Steps E F (deed (channel r) (entry item now))) → GotSo F r (before_it door stage under m) age
-  down_open door stage under pulse m ups downs at1 h age next may to =
+      → ((item : Item) → got (slice_get down age) ≡ Some item → MayDo r (entry item now)) → ((item : Item) → got (slice_get down age) ≡ Some item → Steps E F (deed (channel r) (entry item now))) → Strays E F (channel r) (channel_at door (the_channel stage under m now)) → GotSo F r (before_it door stage under m) age
+  down_open door stage under pulse m ups downs at1 h age next may to strays =
       let few = downs_short E r present up up down waiting me acted puts now door stage under pulse m ups downs h in
       let t : Took Fall read_down fallen downs down 0 age
       = taken Fall read_down fallen (λ a s. is_under_way (length (makers_at door)) a s && (s.endpoint == present))
@@ -462,18 +469,18 @@ module _ (E F : Option Ldata → List Ldata → Type 0) (r : List Entry) (presen
       record {
         item = Got (take 512 t.s.octets);
         is = is;
-        going_on = got_kept r t.s.octets present up down (changed_at age once_more down) waiting me acted puts now (may (Got (take 512 t.s.octets)) is) E F (to (Got (take 512 t.s.octets)) is) door stage under pulse m ups t.before t.last h2 way t.new.reads;
+        going_on = got_kept r t.s.octets present up down (changed_at age once_more down) waiting me acted puts now (may (Got (take 512 t.s.octets)) is) E F (to (Got (take 512 t.s.octets)) is) door stage under pulse m ups t.before t.last h2 way t.new.reads strays;
       }
     where
       passes : (b : Bool) (e : ℕ) → b ≡ true → e ≡ present → (b && (e == present)) ≡ true
       passes b e p q = rw (p, eq-eqb e present q) refl
 
   pub down_kept : (door : Door) (stage : Stage) (under : Under) (pulse : Pulse) (m : Nums) (ups : List Rise) (downs : List Fall) → Now door stage under pulse m ups downs → (age : ℕ) → next_down (before_it door stage under m) ≡ Some age
-      → ((item : Item) → got (slice_get down age) ≡ Some item → MayDo r (entry item now)) → ((item : Item) → got (slice_get down age) ≡ Some item → Steps E F (deed (channel r) (entry item now))) → GotSo F r (before_it door stage under m) age
-  down_kept Shut stage under pulse m ups downs h age next may to =
+      → ((item : Item) → got (slice_get down age) ≡ Some item → MayDo r (entry item now)) → ((item : Item) → got (slice_get down age) ≡ Some item → Steps E F (deed (channel r) (entry item now))) → Strays E F (channel r) (channel_at door (the_channel stage under m now)) → GotSo F r (before_it door stage under m) age
+  down_kept Shut stage under pulse m ups downs h age next may to strays =
       let none : downs ≡ [] = none_yet stage under pulse m ups downs h in
       let way : Way Fall read_down fallen [] down = subst (λ l. Way Fall read_down fallen l down) none h.falling in
       absurd (let e : None ≡ Some age = sym (none_left Fall read_down fallen (λ a s. is_under_way 0 a s && (s.endpoint == present)) down 0 way) ∙ next in cc)
-  down_kept Knocked stage under pulse m ups downs h age next may to = down_open Knocked stage under pulse m ups downs h.door_is.0.at h age next may to
-  down_kept Replied stage under pulse m ups downs h age next may to = down_open Replied stage under pulse m ups downs h.door_is.0.at h age next may to
-  down_kept (Ajar leaves) stage under pulse m ups downs h age next may to = down_open (Ajar leaves) stage under pulse m ups downs h.door_is.at h age next may to
+  down_kept Knocked stage under pulse m ups downs h age next may to strays = down_open Knocked stage under pulse m ups downs h.door_is.0.at h age next may to strays
+  down_kept Replied stage under pulse m ups downs h age next may to strays = down_open Replied stage under pulse m ups downs h.door_is.0.at h age next may to strays
+  down_kept (Ajar leaves) stage under pulse m ups downs h age next may to strays = down_open (Ajar leaves) stage under pulse m ups downs h.door_is.at h age next may to strays

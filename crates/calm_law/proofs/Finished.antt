@@ -3,12 +3,13 @@ use Rattle.std.proofs.Common.{◌≡◌, ◌≢◌, ℕ, ◌≤◌, ◌⊎◌, L
 use Rattle.std.specs.Prelude.{nat_lt, nat_le, reverse}
 use Rattle.std.proofs.lemmas.Bool.{and_parts}
 use Rattle.std.proofs.lemmas.List.{length-reverse}
+use Rattle.knx_model.specs.declared.address.IndAddr.{IndAddr}
 use Rattle.knx_model.specs.declared.log.Sign.{Sign}
 use Rattle.line_model.specs.declared.group.GroupTurn.{GroupTurn}
 use Rattle.line_model.specs.declared.log.LogEntry.{LogEntry}
 use Rattle.line_model.specs.declared.log.LogWhat.TheVariants.{Took}
 use Rattle.line_model.specs.ChannelLost.{delivers, expected, is_new_request, last_frame, has_lapsed, is_ended_by, is_lost}
-use Rattle.line_model.specs.ClientView.{ClientChannel, Fresh, Sought, RefusedBy, Unanswered, Open, Lost, Deed, Puts, Takes, Loses, Nothing, as_counted, counts, deed_of, or_takes, deed_in, after_entry, channel, deed}
+use Rattle.line_model.specs.ClientView.{ClientChannel, Fresh, Sought, RefusedBy, Unanswered, Open, Lost, Deed, Puts, Takes, Loses, Nothing, own_address, as_counted, counts, deed_of, or_takes, deed_in, after_entry, channel, deed}
 use Rattle.line_model.specs.Closing.{asks_to_end, is_open}
 use Rattle.line_model.specs.Leaves.{StaysOpen, IsFinished}
 use Rattle.line_model.specs.Log.{Job, Untaken, Held, Over, job_of, state_of, has_entry, is_turn, MayFollow, IsNextTurn}
@@ -127,14 +128,14 @@ lost_by c l x h =
     let poll : is_poll x.what ≡ true = (and_parts (is_poll x.what) (has_lapsed c l x.now || is_ended_by c l x.now (got_in x.what)) h).0 in
     rw (poll_not_renewed x.what poll) (rw h refl)
 
-counted_loses : (last : Option Ldata) (what : Deed) → as_counted last what ≡ Loses → what ≡ Loses
-counted_loses last (Puts octets) h = absurd (cc)
-counted_loses last (Takes octets) h = absurd (by_count (counts last (ldata_in octets)) h) where
+counted_loses : (address : Option IndAddr) (last : Option Ldata) (what : Deed) → as_counted address last what ≡ Loses → what ≡ Loses
+counted_loses address last (Puts octets) h = absurd (cc)
+counted_loses address last (Takes octets) h = absurd (by_count (counts address last (ldata_in octets)) h) where
   by_count : (b : Bool) → cond {A = Deed} b (Takes octets) Nothing ≡ Loses → ⊥
   by_count true e = cc
   by_count false e = cc
-counted_loses last Loses h = refl
-counted_loses last Nothing h = absurd (cc)
+counted_loses address last Loses h = refl
+counted_loses address last Nothing h = absurd (cc)
 
 pub lost_deed : (c : ClientChannel) (x : Entry) → deed c x ≡ Loses → (d : ℕ) × (after_entry c x ≡ Lost d)
 unfolding deed
@@ -144,10 +145,10 @@ lost_deed (RefusedBy status) x h = absurd (let e : Nothing ≡ Loses = h in cc)
 lost_deed Unanswered x h = absurd (let e : Nothing ≡ Loses = h in cc)
 lost_deed (Lost d) x h = absurd (let e : Nothing ≡ Loses = h in cc)
 lost_deed (Open c l) x h = by_lost (is_lost c l x) refl h where
-  by_lost : (b : Bool) → is_lost c l x ≡ b → cond b Loses (as_counted (last_frame c l) (deed_in c l x)) ≡ Loses → (d : ℕ) × (after_entry (Open c l) x ≡ Lost d)
+  by_lost : (b : Bool) → is_lost c l x ≡ b → cond b Loses (as_counted (own_address l) (last_frame c l) (deed_in c l x)) ≡ Loses → (d : ℕ) × (after_entry (Open c l) x ≡ Lost d)
   by_lost true e g = (c, lost_by c l x e)
   by_lost false e g =
-      absurd (puts_or_takes (is_new_request c l x) (delivers c (expected c l) (request_in (got_in x.what))) (request_in (put_in x.what)) (request_in (got_in x.what)) (counted_loses (last_frame c l) (deed_in c l x) g))
+      absurd (puts_or_takes (is_new_request c l x) (delivers c (expected c l) (request_in (got_in x.what))) (request_in (put_in x.what)) (request_in (got_in x.what)) (counted_loses (own_address l) (last_frame c l) (deed_in c l x) g))
 
 -- ---- none put before none up to a place
 

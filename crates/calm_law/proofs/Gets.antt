@@ -9,6 +9,7 @@ use Rattle.knx_model.specs.declared.frames.ip.IpFrame.{IpFrame}
 use Rattle.knx_model.specs.declared.frames.ip.IpFrame.TheVariants.{ConnectResponse, StateResponse, TunnellingRequest, TunnellingAck}
 use Rattle.knx_model.specs.Cemi.{Written as cemi_octets}
 use Rattle.line_model.specs.Reading.{ldata_in}
+use Rattle.line_model.specs.Gateway.{Channel}
 use Rattle.line_model.specs.Network.{Sent}
 use Rattle.line_model.specs.Tunnel.{Tunnel}
 use Rattle.line_model.specs.Record.{Entry, Got, got, got_in}
@@ -20,24 +21,27 @@ use Rattle.calm_law.proofs.Ways.{Way, Took, taken, none_left}
 use Rattle.calm_law.proofs.Tokens.{Rise, Fall, Made, Ack, Note, Alive, Left, fallen, read_down, made_of, ack_of, note_of, alive_of, left_of, only_last, not_last}
 use Rattle.calm_law.proofs.Seen.{Seen}
 use Rattle.calm_law.proofs.Owning.{same_con}
-use Rattle.calm_law.proofs.State.{Door, Shut, Knocked, Replied, Ajar, Stage, Rising, Riding, Past, Under, Free, Coming, Owed, Back, Pulse, Calm, Beating, Echo, Nums, Goes, Going, ack_if, acks_at, makers_at, awaited, cons_in, flies, is_con_frame, one_if, tunnel_at}
+use Rattle.calm_law.proofs.State.{Door, Shut, Knocked, Replied, Ajar, Stage, Rising, Riding, Past, Under, Free, Coming, Owed, Back, Pulse, Calm, Beating, Echo, Nums, Goes, Going, ack_if, acks_at, makers_at, awaited, cons_in, flies, is_con_frame, one_if, channel_at, the_channel, OutHas, tunnel_at}
 use Rattle.calm_law.proofs.Falls.{last_same, none_yet}
 use Rattle.calm_law.proofs.Rises.{comes, downs_short, one_maker}
 
-pub data Kind (now : ℕ) (ch : ClientChannel) (f : IpFrame) : Type 0 where
-  Opening : (tunnel : Option IndAddr) → f ≡ ConnectResponse 1 0 tunnel → ch ≡ Sought now → Kind now ch f
-  Acked : (l : List Entry) (n : ℕ) → f ≡ TunnellingAck 1 n 0 → ch ≡ Open 1 l → own 1 l ≡ (let o : Own = record { number = n; sent = now ∷ [] } in o) → Kind now ch f
-  Brought : (l : List Entry) (n : ℕ) (cemi : List ℕ) → f ≡ TunnellingRequest 1 n cemi → ch ≡ Open 1 l → expected 1 l ≡ n → (is_confirmation (ldata_in cemi) ≡ true → confirmed 1 l ≡ false) → is_confirmation_of (last_frame 1 l) (ldata_in cemi) ≡ is_confirmation (ldata_in cemi) → Kind now ch f
-  Lives : (l : List Entry) → f ≡ StateResponse 1 0 → ch ≡ Open 1 l → beats 1 l ≡ now ∷ [] → Kind now ch f
+pub data Kind (now : ℕ) (ch : ClientChannel) (out : Option Channel) (f : IpFrame) : Type 0 where
+  Opening : (tunnel : Option IndAddr) → f ≡ ConnectResponse 1 0 tunnel → ch ≡ Sought now → Kind now ch out f
+  Acked : (l : List Entry) (n : ℕ) → f ≡ TunnellingAck 1 n 0 → ch ≡ Open 1 l → own 1 l ≡ (let o : Own = record { number = n; sent = now ∷ [] } in o) → Kind now ch out f
+  Brought : (l : List Entry) (n : ℕ) (cemi : List ℕ) → f ≡ TunnellingRequest 1 n cemi → ch ≡ Open 1 l → expected 1 l ≡ n → (is_confirmation (ldata_in cemi) ≡ true → confirmed 1 l ≡ false) → is_confirmation_of (last_frame 1 l) (ldata_in cemi) ≡ is_confirmation (ldata_in cemi) → OutHas out cemi → Kind now ch out f
+  Lives : (l : List Entry) → f ≡ StateResponse 1 0 → ch ≡ Open 1 l → beats 1 l ≡ now ∷ [] → Kind now ch out f
 
 module _ (E : Option Ldata → List Ldata → Type 0) (r : List Entry) (present : ℕ) (up down : List Sent) (waiting : List Ldata) (me : IndAddr) (acted puts : List (ℕ × List ℕ)) (now : ℕ) where
   abbrev Here : Door → Stage → Under → Pulse → Nums → List Rise → List Fall → Type 0
   Here door stage under pulse m ups downs = Goes E door stage under pulse m ups downs r present up down waiting now
 
+  abbrev gate : Door → Stage → Under → Nums → Option Channel
+  gate door stage under m = channel_at door (the_channel stage under m now)
+
   past_not : (stage : Stage) → stage ≡ Past false → (n : ℕ) → acks_at n stage ≡ []
   past_not stage e n = ap (acks_at n) e
 
-  ack_here : (door : Door) (stage : Stage) (under : Under) (pulse : Pulse) (m : Nums) (ups : List Rise) (n : ℕ) (before : List Fall) → Here door stage under pulse m ups (before ++ Ack n ∷ []) → Kind now (channel r) (TunnellingAck 1 n 0)
+  ack_here : (door : Door) (stage : Stage) (under : Under) (pulse : Pulse) (m : Nums) (ups : List Rise) (n : ℕ) (before : List Fall) → Here door stage under pulse m ups (before ++ Ack n ∷ []) → Kind now (channel r) (gate door stage under m) (TunnellingAck 1 n 0)
   ack_here door (Rising cemi f) under pulse m ups n before h = absurd (not_last ack_of before (Ack n) n refl h.downs_are.acks_are)
   ack_here door (Riding f false) under pulse m ups n before h = absurd (not_last ack_of before (Ack n) n refl h.downs_are.acks_are)
   ack_here door (Past false) under pulse m ups n before h = absurd (not_last ack_of before (Ack n) n refl h.downs_are.acks_are)
@@ -62,7 +66,7 @@ module _ (E : Option Ldata → List Ldata → Type 0) (r : List Entry) (present 
   awaited_con con false f w e is = refl
   awaited_con false true f w e is = absurd (cc)
 
-  note_here : (door : Door) (stage : Stage) (under : Under) (pulse : Pulse) (m : Nums) (ups : List Rise) (n : ℕ) (cemi : List ℕ) (before : List Fall) → Here door stage under pulse m ups (before ++ Note n cemi ∷ []) → (door ≡ Replied → ⊥) → Kind now (channel r) (TunnellingRequest 1 n cemi)
+  note_here : (door : Door) (stage : Stage) (under : Under) (pulse : Pulse) (m : Nums) (ups : List Rise) (n : ℕ) (cemi : List ℕ) (before : List Fall) → Here door stage under pulse m ups (before ++ Note n cemi ∷ []) → (door ≡ Replied → ⊥) → Kind now (channel r) (gate door stage under m) (TunnellingRequest 1 n cemi)
   note_here door stage Free pulse m ups n cemi before h not = absurd (not_last note_of before (Note n cemi) (n, cemi) refl h.downs_are.notes_are)
   note_here door stage (Owed y) pulse m ups n cemi before h not = absurd (not_last note_of before (Note n cemi) (n, cemi) refl h.downs_are.notes_are)
   note_here door stage (Back y) pulse m ups n cemi before h not = absurd (not_last note_of before (Note n cemi) (n, cemi) refl h.downs_are.notes_are)
@@ -77,9 +81,9 @@ module _ (E : Option Ldata → List Ldata → Type 0) (r : List Entry) (present 
       let conf : confirmed 1 (o.first ∷ o.rest) ≡ m.confirmed = ap (λ (s : Seen). s.confirmed) o.says in
       let its : is_confirmation_of (last_frame 1 (o.first ∷ o.rest)) (ldata_in cemi) ≡ is_confirmation (ldata_in cemi)
       = ap (λ (s : Seen). is_confirmation_of s.last (ldata_in cemi)) o.says ∙ ap (λ z. is_confirmation_of m.last (ldata_in z)) cemi_is ∙ same_con m.last y h.own.1.0 ∙ ap (λ z. is_confirmation (ldata_in z)) (sym cemi_is) in
-      Brought (o.first ∷ o.rest) n cemi refl o.is (ap (λ (s : Seen). s.expected) o.says ∙ sym n_is) (λ con. conf ∙ awaited_con (is_con_frame y) m.confirmed (flies stage) (cons_in waiting) h.counts (ap (λ z. is_confirmation (ldata_in z)) (sym cemi_is) ∙ con)) its
+      Brought (o.first ∷ o.rest) n cemi refl o.is (ap (λ (s : Seen). s.expected) o.says ∙ sym n_is) (λ con. conf ∙ awaited_con (is_con_frame y) m.confirmed (flies stage) (cons_in waiting) h.counts (ap (λ z. is_confirmation (ldata_in z)) (sym cemi_is) ∙ con)) its (sym cemi_is)
 
-  alive_here : (door : Door) (stage : Stage) (under : Under) (pulse : Pulse) (m : Nums) (ups : List Rise) (before : List Fall) → Here door stage under pulse m ups (before ++ Alive ∷ []) → Kind now (channel r) (StateResponse 1 0)
+  alive_here : (door : Door) (stage : Stage) (under : Under) (pulse : Pulse) (m : Nums) (ups : List Rise) (before : List Fall) → Here door stage under pulse m ups (before ++ Alive ∷ []) → Kind now (channel r) (gate door stage under m) (StateResponse 1 0)
   alive_here door stage under Calm m ups before h = absurd (not_last alive_of before Alive 0 refl h.downs_are.alives_are)
   alive_here door stage under Beating m ups before h = absurd (not_last alive_of before Alive 0 refl h.downs_are.alives_are)
   alive_here Shut stage under Echo m ups before h = absurd (let e : Echo ≡ Calm = h.door_is.2.pulse_is in cc)
@@ -97,7 +101,7 @@ module _ (E : Option Ldata → List Ldata → Type 0) (r : List Entry) (present 
       let x : made_of (Note n cemi) ≡ made_of (Made opens.tunnel) = ap made_of (last_same before opens.younger (Note n cemi) (Made opens.tunnel) opens.is) in
       cc
 
-  here : (door : Door) (stage : Stage) (under : Under) (pulse : Pulse) (m : Nums) (ups : List Rise) (before : List Fall) (last : Fall) → Here door stage under pulse m ups (before ++ last ∷ []) → Kind now (channel r) (fallen last)
+  here : (door : Door) (stage : Stage) (under : Under) (pulse : Pulse) (m : Nums) (ups : List Rise) (before : List Fall) (last : Fall) → Here door stage under pulse m ups (before ++ last ∷ []) → Kind now (channel r) (gate door stage under m) (fallen last)
   here Shut stage under pulse m ups before (Made t) h = absurd (not_last made_of before (Made t) 0 refl h.downs_are.mades_are)
   here Knocked stage under pulse m ups before (Made t) h = absurd (not_last made_of before (Made t) 0 refl h.downs_are.mades_are)
   here (Ajar leaves) stage under pulse m ups before (Made t) h = absurd (not_last made_of before (Made t) 0 refl h.downs_are.mades_are)
@@ -114,7 +118,7 @@ pub record KindSo (r : List Entry) (t : Tunnel) (age : ℕ) : Type 0 where
   pub is : got (slice_get t.network.down age) ≡ Some (Got octets)
   pub frame : IpFrame
   pub reads : got_in (Got octets) ≡ Some frame
-  pub kind : Kind t.now (channel r) frame
+  pub kind : Kind t.now (channel r) t.gateway.channel frame
 
 module _ (E : Option Ldata → List Ldata → Type 0) (r : List Entry) (present : ℕ) (up down : List Sent) (waiting : List Ldata) (me : IndAddr) (acted puts : List (ℕ × List ℕ)) (now : ℕ) where
   abbrev before_it : Door → Stage → Under → Nums → Tunnel

@@ -10,7 +10,7 @@ use Rattle.knx_model.specs.Connection.{frame_in}
 use Rattle.knx_model.specs.DeviceState.{DeviceState}
 use Rattle.line_model.specs.declared.log.LogEntry.{LogEntry}
 use Rattle.line_model.specs.ChannelLost.{is_lost, is_new_request, last_frame}
-use Rattle.line_model.specs.ClientView.{ClientChannel, Fresh, Sought, RefusedBy, Unanswered, Open, Lost, Deed, Puts, Takes, Loses, Nothing, as_counted, channel, counts, deed, deed_in, deed_of, or_takes}
+use Rattle.line_model.specs.ClientView.{ClientChannel, Fresh, Sought, RefusedBy, Unanswered, Open, Lost, Deed, Puts, Takes, Loses, Nothing, own_address, as_counted, channel, counts, deed, deed_in, deed_of, or_takes}
 use Rattle.line_model.specs.Leaves.{StaysOpen}
 use Rattle.line_model.specs.Log.{Job, log_before}
 use Rattle.line_model.specs.Moments.{heard_from, is_from, is_to, transport_of, where_is}
@@ -29,7 +29,7 @@ use Rattle.calm_law.proofs.JoinedTime.{phase_rests}
 use Rattle.calm_law.proofs.Phases.{Phase, Rests, Item as StreamItem, Heard, items_of, stream_at}
 use Rattle.calm_law.proofs.Rows.{Devices, IsTold, Row, heard_if, item_in, items_in, told_if}
 use Rattle.calm_law.proofs.Sessions.{Whole}
-use Rattle.calm_law.proofs.State.{Steps, ridden}
+use Rattle.calm_law.proofs.State.{NoStrays, Steps, none_strays, ridden}
 use Rattle.calm_law.proofs.Law.{Inv, May, step_kept}
 
 -- ---- a frame that is taken
@@ -129,14 +129,14 @@ module _ (E : Option Ldata → List Ldata → Type 0) where
   puts_took true (Some q) = tt
   puts_took false (Some q) = tt
 
-  counted_took : (last : Option Ldata) (what : Deed) → Took E what → Took E (as_counted last what)
-  counted_took last (Puts octets) h = tt
-  counted_took last (Takes octets) h = by_test (counts last (ldata_in octets)) where
+  counted_took : (address : Option IndAddr) (last : Option Ldata) (what : Deed) → Took E what → Took E (as_counted address last what)
+  counted_took address last (Puts octets) h = tt
+  counted_took address last (Takes octets) h = by_test (counts address last (ldata_in octets)) where
     by_test : (b : Bool) → Took E (cond b (Takes octets) Nothing)
     by_test true = h
     by_test false = tt
-  counted_took last Loses h = tt
-  counted_took last Nothing h = tt
+  counted_took address last Loses h = tt
+  counted_took address last Nothing h = tt
 
   put_took : (ch : ClientChannel) (item : Item) (now : ℕ) → IsPut item → Took E (deed ch (entry item now))
   unfolding deed
@@ -147,11 +147,11 @@ module _ (E : Option Ldata → List Ldata → Type 0) where
   put_took (Lost c) item now put = tt
   put_took (Open c l) (Put octets) now put =
       let what : Deed = deed_of Puts (is_new_request c l (entry (Put octets) now)) (request_in (put_in (Put octets))) in
-      counted_took (last_frame c l) (or_takes what Nothing) (either_took what (puts_took (is_new_request c l (entry (Put octets) now)) (request_in (put_in (Put octets)))))
+      counted_took (own_address l) (last_frame c l) (or_takes what Nothing) (either_took what (puts_took (is_new_request c l (entry (Put octets) now)) (request_in (put_in (Put octets)))))
   put_took (Open c l) Renewed now put = tt
   put_took (Open c l) (Got octets) now put = absurd put
   put_took (Open c l) Quiet now put = by_test (is_lost c l (entry Quiet now)) where
-    by_test : (b : Bool) → Took E (cond b Loses (as_counted (last_frame c l) (deed_in c l (entry Quiet now))))
+    by_test : (b : Bool) → Took E (cond b Loses (as_counted (own_address l) (last_frame c l) (deed_in c l (entry Quiet now))))
     by_test true = tt
     by_test false = tt
 
@@ -164,13 +164,13 @@ module _ (E : Option Ldata → List Ldata → Type 0) where
     put_at : (te : TunnelEvent) (item : Item) → IsPut item → TookAt te item
     put_at te item put = λ stays. put_took (channel r) item (step t te).now put
 
-    got_at : (age : ℕ) → Inv E r t → MayHappen Commissions t (Down age) → IsCalm t (Down age) → May r (item_of t (Down age)) (step t (Down age)).now → (item : Item) → item_of t (Down age) ≡ Some item → TookAt (Down age) item
-    got_at age inv can calm may item is = λ stays.
+    got_at : (age : ℕ) → NoStrays (channel r) t.gateway.channel → Inv E r t → MayHappen Commissions t (Down age) → IsCalm t (Down age) → May r (item_of t (Down age)) (step t (Down age)).now → (item : Item) → item_of t (Down age) ≡ Some item → TookAt (Down age) item
+    got_at age none inv can calm may item is = λ stays.
         (let now_is : (step t (Down age)).now ≡ t.now = step_now t (Down age) in
         let what : Deed = deed (channel r) (entry item t.now) in
         let after_it : Inv (λ fly q. Took E (deed (channel r) (entry item t.now))) (noted (item_of t (Down age)) (step t (Down age)).now r) (step t (Down age))
         = step_kept E (λ fly q. Took E (deed (channel r) (entry item t.now))) r t (Down age) inv can calm may
-        (λ it got_is. subst (λ z. Steps E (λ fly q. Took E (deed (channel r) (entry item t.now))) (deed (channel r) (entry z t.now))) (same_item item it (sym is ∙ got_is)) (took_steps E (deed (channel r) (entry item t.now)))) in
+        (λ it got_is. subst (λ z. Steps E (λ fly q. Took E (deed (channel r) (entry item t.now))) (deed (channel r) (entry z t.now))) (same_item item it (sym is ∙ got_is)) (took_steps E (deed (channel r) (entry item t.now))), none_strays E (λ fly q. Took E (deed (channel r) (entry item t.now))) (channel r) t.gateway.channel none) in
         let noted_is : noted (item_of t (Down age)) (step t (Down age)).now r ≡ entry item (step t (Down age)).now ∷ r = ap (λ o. noted o (step t (Down age)).now r) is in
         subst (λ n. Took E (deed (channel r) (entry item n))) (sym now_is)
         (by_inv (noted (item_of t (Down age)) (step t (Down age)).now r) (step t (Down age)) (deed (channel r) (entry item t.now)) after_it (subst StaysOpen (sym noted_is) stays)))
@@ -180,21 +180,21 @@ module _ (E : Option Ldata → List Ldata → Type 0) where
         by_inv x u what (inr (inl p)) stays = absurd (p.up.asks.1 stays)
         by_inv x u what (inr (inr g)) stays = absurd (g.asked stays)
 
-    pub took_at : (te : TunnelEvent) → Inv E r t → MayHappen Commissions t te → IsCalm t te → May r (item_of t te) (step t te).now → (item : Item) → item_of t te ≡ Some item → TookAt te item
-    took_at (Down age) inv can calm may item is = got_at age inv can calm may item is
-    took_at (Send octets) inv can calm may item is = put_at (Send octets) item (subst IsPut (same_item (Put octets) item is) tt)
-    took_at (From endpoint octets) inv can calm may item is = put_at (From endpoint octets) item (subst IsPut (same_item (Put octets) item is) tt)
-    took_at Renew inv can calm may item is = put_at Renew item (subst IsPut (same_item Renewed item is) tt)
-    took_at (Pass ms) inv can calm may item is = put_at (Pass ms) item (subst IsPut (same_item Quiet item is) tt)
-    took_at (Up age) inv can calm may item is = absurd (cc)
-    took_at (UpRefused age status) inv can calm may item is = absurd (cc)
-    took_at (LoseUp age) inv can calm may item is = absurd (cc)
-    took_at (LoseDown age) inv can calm may item is = absurd (cc)
-    took_at (Carried con) inv can calm may item is = absurd (cc)
-    took_at (tunnel.Heard frames) inv can calm may item is = absurd (cc)
-    took_at Repeat inv can calm may item is = absurd (cc)
-    took_at Close inv can calm may item is = absurd (cc)
-    took_at Elsewhere inv can calm may item is = absurd (cc)
+    pub took_at : (te : TunnelEvent) → NoStrays (channel r) t.gateway.channel → Inv E r t → MayHappen Commissions t te → IsCalm t te → May r (item_of t te) (step t te).now → (item : Item) → item_of t te ≡ Some item → TookAt te item
+    took_at (Down age) none inv can calm may item is = got_at age none inv can calm may item is
+    took_at (Send octets) none inv can calm may item is = put_at (Send octets) item (subst IsPut (same_item (Put octets) item is) tt)
+    took_at (From endpoint octets) none inv can calm may item is = put_at (From endpoint octets) item (subst IsPut (same_item (Put octets) item is) tt)
+    took_at Renew none inv can calm may item is = put_at Renew item (subst IsPut (same_item Renewed item is) tt)
+    took_at (Pass ms) none inv can calm may item is = put_at (Pass ms) item (subst IsPut (same_item Quiet item is) tt)
+    took_at (Up age) none inv can calm may item is = absurd (cc)
+    took_at (UpRefused age status) none inv can calm may item is = absurd (cc)
+    took_at (LoseUp age) none inv can calm may item is = absurd (cc)
+    took_at (LoseDown age) none inv can calm may item is = absurd (cc)
+    took_at (Carried con) none inv can calm may item is = absurd (cc)
+    took_at (tunnel.Heard frames) none inv can calm may item is = absurd (cc)
+    took_at Repeat none inv can calm may item is = absurd (cc)
+    took_at Close none inv can calm may item is = absurd (cc)
+    took_at Elsewhere none inv can calm may item is = absurd (cc)
 
 -- ---- each event
 
@@ -215,8 +215,8 @@ module _ (jobs : List Job) (then : ℕ → Devices) (start : World) (me : IndAdd
   abbrev HearsAt : TunnelEvent → Item → Type 0
   HearsAt te item = HeardSo jobs start log places (record { at = suc m; what = entry item (step t te).now })
 
-  pub hears : (te : TunnelEvent) → Inv E r t → MayHappen Commissions t te → IsCalm t te → May r (item_of t te) (step t te).now → (item : Item) → item_of t te ≡ Some item → HearsAt te item
-  hears te inv can calm may item is = λ stays a some on none. took_means a (deed (channel r) (entry item (step t te).now)) (took_at E r t te inv can calm may item is stays) some on none
+  pub hears : (te : TunnelEvent) → NoStrays (channel r) t.gateway.channel → Inv E r t → MayHappen Commissions t te → IsCalm t te → May r (item_of t te) (step t te).now → (item : Item) → item_of t te ≡ Some item → HearsAt te item
+  hears te none inv can calm may item is = λ stays a some on held. took_means a (deed (channel r) (entry item (step t te).now)) (took_at E r t te none inv can calm may item is stays) some on held
 
   pub heard_if_noted : (te : TunnelEvent) (now_log : List LogEntry) (o : Option Item) → item_of t te ≡ o → ((item : Item) → item_of t te ≡ Some item → HearsAt te item) → EachHeard jobs start now_log places → log_before (suc m) now_log ≡ log → EachHeard jobs start now_log (placed_if (suc m) (step t te).now o places)
   heard_if_noted te now_log None is f h same = h

@@ -4,6 +4,7 @@ use Rattle.knx_model.specs.declared.address.IndAddr.{IndAddr}
 use Rattle.knx_model.specs.declared.frames.cemi.Ldata.{Ldata}
 use Rattle.knx_model.specs.DeviceState.{DeviceState}
 use Rattle.knx_model.specs.Plans.{Over}
+use Rattle.line_model.specs.ClientView.{channel}
 use Rattle.line_model.specs.declared.group.GroupTurn.{GroupTurn}
 use Rattle.line_model.specs.declared.log.LogEntry.{LogEntry}
 use Rattle.line_model.specs.Calm as line
@@ -29,6 +30,7 @@ use Rattle.calm_law.proofs.Spending.{nothing_spent}
 use Rattle.calm_law.proofs.Held.{HeldJob, AreUpto}
 use Rattle.calm_law.proofs.Sessions.{Whole}
 use Rattle.calm_law.proofs.Joined.{step_now}
+use Rattle.calm_law.proofs.State.{NoStrays}
 use Rattle.calm_law.proofs.JoinedSteps.{Asked, TimesSo, Capable, rides}
 
 -- the entries of places, where one more may be added
@@ -91,14 +93,14 @@ module _ (jobs : List Job) (then : ℕ → Devices) (turns : List GroupTurn) (st
   abbrev o : Option Item
   o = item_of w.tunnel te
 
-  pub goes_on : Goes jobs then w log places → Capable jobs then turns start served on_line n log places upto upto_next early w → newest_time (entries places) ≡ w.tunnel.now → Owned w → line.IsCalm w e → SendsShort w e → MayHappen Commissions w e → May (entries places) o (step w e).tunnel.now
+  pub goes_on : Goes jobs then w log places → Capable jobs then turns start served on_line n log places upto upto_next early w → NoStrays (channel (entries places)) w.tunnel.gateway.channel → newest_time (entries places) ≡ w.tunnel.now → Owned w → line.IsCalm w e → SendsShort w e → MayHappen Commissions w e → May (entries places) o (step w e).tunnel.now
       → Asked jobs then turns start served on_line n log places upto upto_next early w e → TimesSo jobs then turns start served on_line n log places upto upto_next early w e → ((a : ℕ) → start.devices a ≢ None → w.devices a ≢ None) → Goes jobs then (step w e) log (placed_if (suc n) (step w e).tunnel.now o places)
-  goes_on inv capable newest own calm short can may asks times present =
+  goes_on inv capable none newest own calm short can may asks times present =
       let t : Tunnel = w.tunnel in
       let now : ℕ = (tunnel.step t te).now in
       let F : IndAddr → ℕ → Option Ldata → List Ldata → Type 0 = λ m x. Whole jobs then m log (placed_if (suc n) x o places) (devices_after w e) x in
       let there : Inv (F (me w) (tunnel.after t te).now) (noted o now (entries places)) (tunnel.step t te)
       = step_kept (Whole jobs then (me w) log places w.devices t.now) (F (me w) (tunnel.after t te).now) (entries places) t te inv can.tunnel (event_calm w e own calm short) may
-      (rides jobs then turns start served on_line n log places upto upto_next early w capable newest e own calm can.devices asks times present) in
+      (rides jobs then turns start served on_line n log places upto upto_next early w capable none newest e own calm can.devices asks times present) in
       let here : Inv (F (me w) now) (noted o now (entries places)) (tunnel.step t te) = subst (λ x. Inv (F (me w) x) (noted o now (entries places)) (tunnel.step t te)) (sym (step_now t te)) there in
       subst (λ x. Inv (F (me (step w e)) now) x (tunnel.step t te)) (sym (entries_if (suc n) now o places)) (subst (λ m. Inv (F m now) (noted o now (entries places)) (tunnel.step t te)) (sym (step_same t te)) here)

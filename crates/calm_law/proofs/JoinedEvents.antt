@@ -29,7 +29,7 @@ use Rattle.line_model.specs.ClientView.{channel, deed}
 use Rattle.line_model.specs.World.{World, all_take, changed, others_take, on_bus, is_among, is_confirmed, takes_it, confirmation, carried}
 use Rattle.line_law.proofs.Coupled.{IsFrameOf}
 use Rattle.line_law.proofs.ReadBack.{written_in}
-use Rattle.calm_law.proofs.State.{Steps}
+use Rattle.calm_law.proofs.State.{NoStrays, Steps, none_strays}
 use Rattle.calm_law.proofs.Law.{RidesOn}
 use Rattle.calm_law.proofs.Rows.{Devices}
 use Rattle.calm_law.proofs.RowsOnBus.{riders_bus, riders_send, one_took}
@@ -73,12 +73,15 @@ module _ (jobs : List Job) (then : ℕ → Devices) (turns : List GroupTurn) (st
     plain None item h = absurd (cc)
     plain (Some s) item h = (let e : Got (take longest_got s.octets) ≡ item = cc in subst IsPlain e (refl, refl))
 
-    pub down_rides : (age : ℕ) → ((item : Item) → got (slice_get t.network.down age) ≡ Some item → MayPutSo item t.now) → RidesOn (Before devices t.now) (After devices t (tunnel.Down age)) r t (tunnel.Down age)
-    down_rides age asks = λ item is.
-        (let P : Option Item → Type 0 = λ o. Steps (Before devices t.now) (Whole jobs then me log (later o t.now) devices t.now) (deed (channel r) (entry item t.now)) in
-        let p : IsPlain item = plain (slice_get t.network.down age) item is in
-        subst P (sym is)
-        (entry_steps jobs then turns start served on_line me n log places upto upto_next early devices capable present (entry item t.now) t.now refl (ap (λ b. b && nat_lt (newest_time r) t.now) p.1) (fresh_before (channel r) (entry item t.now) p.0) (asks item is).0 (asks item is).1))
+    pub down_rides : (age : ℕ) → NoStrays (channel r) t.gateway.channel → ((item : Item) → got (slice_get t.network.down age) ≡ Some item → MayPutSo item t.now) → RidesOn (Before devices t.now) (After devices t (tunnel.Down age)) r t (tunnel.Down age)
+    down_rides age none asks = (
+      λ item is.
+          (let P : Option Item → Type 0 = λ o. Steps (Before devices t.now) (Whole jobs then me log (later o t.now) devices t.now) (deed (channel r) (entry item t.now)) in
+          let p : IsPlain item = plain (slice_get t.network.down age) item is in
+          subst P (sym is)
+          (entry_steps jobs then turns start served on_line me n log places upto upto_next early devices capable present (entry item t.now) t.now refl (ap (λ b. b && nat_lt (newest_time r) t.now) p.1) (fresh_before (channel r) (entry item t.now) p.0) (asks item is).0 (asks item is).1)),
+      none_strays (Before devices t.now) (After devices t (tunnel.Down age)) (channel r) t.gateway.channel none,
+    )
 
   -- ---- what the gateway does
 

@@ -43,7 +43,8 @@ use Rattle.calm_law.proofs.Short.{AreShort}
 use Rattle.calm_law.proofs.ShortFrames.{are_short}
 use Rattle.calm_law.specs.CalmTunnel.{PutsSo, PutsRightly, IsKept, KeepsItsChannel}
 use Rattle.calm_law.specs.CalmJobs.{HavePower, IsPromptClient}
-use Rattle.calm_law.proofs.State.{lives_over, Ridden, ridden}
+use Rattle.calm_law.proofs.OwnFrames.{own_frames}
+use Rattle.calm_law.proofs.State.{NoStrays, lives_over, Ridden, ridden}
 use Rattle.calm_law.proofs.Sends.{MayDo}
 use Rattle.calm_law.proofs.Law.{Inv, May, Keeps, may_of, idle_of, lives_rides, kept_of}
 use Rattle.calm_law.proofs.Ends.{parted_pass}
@@ -495,14 +496,15 @@ module _ (jobs : List Job) (turns : List GroupTurn) (start : World) (served : (k
         let may_after : May (entries places) o (tunnel.after t te).now = subst (λ z. May (entries places) o z) same may in
         let so_after : IsSo jobs turns log (placed_if (suc m) (tunnel.after t te).now o places) = subst (λ z. IsSo jobs turns log (placed_if (suc m) z o places)) same so in
         let own : Owned w = owned start past f in
+        let none : NoStrays (channel (entries places)) t.gateway.channel = subst (λ (z : List Entry). NoStrays (channel z) t.gateway.channel) (sym (entries_placed start past)) (own_frames start past f legal.1) in
         let newest : newest_time (noted o (tunnel.after t te).now (entries places)) ≡ (tunnel.after t te).now = newest_after t te (entries places) (event_calm w e own calm.0 short.0) s.newest in
         let there : AllThere (step w e) = λ a h. devices_there w e calm.0 a (s.there a h) in
         let goes : Goes jobs then (step w e) now_log (placed_if (suc m) n o places)
-        = goes_on jobs then turns start served on_line m now_log places (moments_upto start past) (upto_next start past) early w e s.so.goes s.capable s.newest own calm.0 short.0 legal.0 may (asks_on (tunnel.after t te).now o so_after) (times e calm.0 may_after so_after) s.there in
+        = goes_on jobs then turns start served on_line m now_log places (moments_upto start past) (upto_next start past) early w e s.so.goes s.capable none s.newest own calm.0 short.0 legal.0 may (asks_on (tunnel.after t te).now o so_after) (times e calm.0 may_after so_after) s.there in
         let kept : StaysOpen (entries (placed_if (suc m) n o places)) → Every NotLost (moments (placed_if (suc m) n o places))
         = kept_on n o s.kept (kept_of (Whole jobs then (me (step w e)) now_log (placed_if (suc m) n o places) (step w e).devices (step w e).tunnel.now) (entries (placed_if (suc m) n o places)) (step w e).tunnel goes) in
         let heard_at : (item : Item) → o ≡ Some item → HeardSo jobs start now_log places (record { at = suc m; what = entry item n })
-        = λ item is. hears jobs then start (me w) now_log places w.devices m t s.there te s.so.goes legal.0.tunnel (event_calm w e own calm.0 short.0) may item is in
+        = λ item is. hears jobs then start (me w) now_log places w.devices m t s.there te none s.so.goes legal.0.tunnel (event_calm w e own calm.0 short.0) may item is in
         let after_event : So (step w e) (placed_if (suc m) n o places) now_log = record { goes = goes; finished = finished_on n o so s.so.finished; fails_not = s.so.fails_not; refuses = s.so.refuses; brings = s.so.brings; shared = λ cost costs. shared_on n o so heard_at cost (s.so.shared cost costs) } in
         record {
           so = logged newer (e ∷ past) whole there kept after_event;

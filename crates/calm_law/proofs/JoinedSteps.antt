@@ -22,6 +22,7 @@ use Rattle.line_model.specs.Legal.{OfDevice, DevicesAllow}
 use Rattle.line_model.specs.World.{World, Event, AtGateway, Comes, Send, From, Renew, Up, UpRefused, Down, LoseUp, LoseDown, Bus, BusTorn, BusWorn, BusAgain, DevSend, DevRepeat, DevClose, GwAgain, GwRepeat, GwClose, Cut, On, Pass, me, on_bus, all_take, changed, others_take, carried, heard, waiting_at, repeat_at, frame_by, next_frame, tunnel_event, devices_after}
 use Rattle.line_law.proofs.Coupled.{Owned}
 use Rattle.line_law.proofs.Owned.{waiting_owned}
+use Rattle.calm_law.proofs.State.{NoStrays}
 use Rattle.calm_law.proofs.Law.{RidesOn}
 use Rattle.calm_law.proofs.Rows.{Devices}
 use Rattle.calm_law.proofs.Held.{HeldJob, AreUpto}
@@ -84,33 +85,33 @@ module _ (jobs : List Job) (then : ℕ → Devices) (turns : List GroupTurn) (st
   abbrev pub Capable : Type 0
   Capable = (a : ℕ) (d : DeviceState) → w.devices a ≡ Some d → HasCapacities d.kept
 
-  pub rides : Capable → newest_time r ≡ w.tunnel.now → (e : Event) → Owned w → line.IsCalm w e → DevicesAllow w e → Asked e → TimesSo e → Present → So (devices_after w e) (tunnel_event w e)
-  rides capable newest (Send octets) own calm can asks times present = send_rides jobs then turns start served on_line (me w) n log places upto upto_next early w.devices capable present w.tunnel octets (asks (Put octets) refl)
-  rides capable newest (From endpoint octets) own calm can asks times present = absurd calm
-  rides capable newest Renew own calm can asks times present = renew_rides jobs then turns start served on_line (me w) n log places upto upto_next early w.devices capable present w.tunnel (asks Renewed refl)
-  rides capable newest (Up age) own calm can asks times present = up_rides jobs then turns start served on_line (me w) n log places upto upto_next early w.devices w.tunnel age
-  rides capable newest (UpRefused age status) own calm can asks times present = absurd calm
-  rides capable newest (Down age) own calm can asks times present = down_rides jobs then turns start served on_line (me w) n log places upto upto_next early w.devices capable present w.tunnel age asks
-  rides capable newest (LoseUp age) own calm can asks times present = absurd calm
-  rides capable newest (LoseDown age) own calm can asks times present = absurd calm
-  rides capable newest (Bus left_out) own calm can asks times present =
+  pub rides : Capable → NoStrays (channel r) w.tunnel.gateway.channel → newest_time r ≡ w.tunnel.now → (e : Event) → Owned w → line.IsCalm w e → DevicesAllow w e → Asked e → TimesSo e → Present → So (devices_after w e) (tunnel_event w e)
+  rides capable none newest (Send octets) own calm can asks times present = send_rides jobs then turns start served on_line (me w) n log places upto upto_next early w.devices capable present w.tunnel octets (asks (Put octets) refl)
+  rides capable none newest (From endpoint octets) own calm can asks times present = absurd calm
+  rides capable none newest Renew own calm can asks times present = renew_rides jobs then turns start served on_line (me w) n log places upto upto_next early w.devices capable present w.tunnel (asks Renewed refl)
+  rides capable none newest (Up age) own calm can asks times present = up_rides jobs then turns start served on_line (me w) n log places upto upto_next early w.devices w.tunnel age
+  rides capable none newest (UpRefused age status) own calm can asks times present = absurd calm
+  rides capable none newest (Down age) own calm can asks times present = down_rides jobs then turns start served on_line (me w) n log places upto upto_next early w.devices capable present w.tunnel age none asks
+  rides capable none newest (LoseUp age) own calm can asks times present = absurd calm
+  rides capable none newest (LoseDown age) own calm can asks times present = absurd calm
+  rides capable none newest (Bus left_out) own calm can asks times present =
       let P : List ℕ → Type 0 = λ l. So (all_take w.tunnel.now l (next_frame w) w.devices) (carried w l (next_frame w)) in
       subst P (sym calm) (bus_rides jobs then turns start served on_line (me w) n log places upto upto_next early w w.tunnel.gateway.bus refl (goes_over w.tunnel.gateway.bus can))
-  rides capable newest (BusTorn fresh octets) own calm can asks times present = absurd calm
-  rides capable newest (BusWorn octets) own calm can asks times present = absurd calm
-  rides capable newest (BusAgain device) own calm can asks times present = absurd calm
-  rides capable newest (DevSend device gateway left_out) own calm can asks times present =
+  rides capable none newest (BusTorn fresh octets) own calm can asks times present = absurd calm
+  rides capable none newest (BusWorn octets) own calm can asks times present = absurd calm
+  rides capable none newest (BusAgain device) own calm can asks times present = absurd calm
+  rides capable none newest (DevSend device gateway left_out) own calm can asks times present =
       let P : AtGateway → Type 0 = λ g. So (changed device pops (others_take w.tunnel.now (device ∷ []) (waiting_at w device) w.devices)) (heard g (waiting_at w device)) in
       let Q : List ℕ → Type 0 = λ l. So (changed device pops (others_take w.tunnel.now (device ∷ l) (waiting_at w device) w.devices)) (heard gateway (waiting_at w device)) in
       subst Q (sym calm.1) (subst P (sym calm.0) (sends_at device (w.devices device) refl own can))
-  rides capable newest (DevRepeat device gateway) own calm can asks times present =
+  rides capable none newest (DevRepeat device gateway) own calm can asks times present =
       let P : AtGateway → Type 0 = λ g. So (changed device (λ d. repeats d w.tunnel.now) w.devices) (heard g (repeat_at w device)) in
       subst P (sym calm.0) (repeats_at device (changed device (λ d. repeats d w.tunnel.now) w.devices) (repeat_at w device) calm.1)
-  rides capable newest (DevClose device) own calm can asks times present = closes_at device (changed device shut w.devices) calm
-  rides capable newest GwAgain own calm can asks times present = absurd calm
-  rides capable newest GwRepeat own calm can asks times present = repeat_rides jobs then turns start served on_line (me w) n log places upto upto_next early w.devices w.tunnel
-  rides capable newest GwClose own calm can asks times present = close_rides jobs then turns start served on_line (me w) n log places upto upto_next early w.devices w.tunnel
-  rides capable newest (Cut device) own calm can asks times present = absurd calm
-  rides capable newest (On device) own calm can asks times present = absurd calm
-  rides capable newest (Pass ms) own calm can asks times present =
+  rides capable none newest (DevClose device) own calm can asks times present = closes_at device (changed device shut w.devices) calm
+  rides capable none newest GwAgain own calm can asks times present = absurd calm
+  rides capable none newest GwRepeat own calm can asks times present = repeat_rides jobs then turns start served on_line (me w) n log places upto upto_next early w.devices w.tunnel
+  rides capable none newest GwClose own calm can asks times present = close_rides jobs then turns start served on_line (me w) n log places upto upto_next early w.devices w.tunnel
+  rides capable none newest (Cut device) own calm can asks times present = absurd calm
+  rides capable none newest (On device) own calm can asks times present = absurd calm
+  rides capable none newest (Pass ms) own calm can asks times present =
       pass_rides jobs then start on_line (me w) n log places upto_next early w.devices present w.tunnel newest ms times.nothing times.back (λ a d is. calm.settled.nothing_to_send.devices a d is) times.busy

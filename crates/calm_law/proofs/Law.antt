@@ -16,7 +16,7 @@ use Rattle.line_model.specs.Haste.{KeepsPaces}
 use Rattle.line_model.specs.Undisturbed.{AwaitsNothing}
 use Rattle.calm_law.specs.CalmTunnel.{IsCalm, AreCalm, IsSettled, PutsRightly, PassesSo, PassesIdly, IsKept, KeepsItsChannel}
 use Rattle.calm_law.proofs.Tokens.{Rise, Fall}
-use Rattle.calm_law.proofs.State.{Door, Shut, Knocked, Replied, Ajar, Stage, Past, Under, Free, Pulse, Calm, Nums, DoorIs, Goes, Going, going, Lives, lives, Steps, rides_over, IsPut, tunnel_at}
+use Rattle.calm_law.proofs.State.{Door, Shut, Knocked, Replied, Ajar, Stage, Past, Under, Free, Pulse, Calm, Nums, DoorIs, Goes, Going, going, Lives, lives, Steps, Strays, rides_over, IsPut, tunnel_at}
 use Rattle.calm_law.proofs.Puts.{puts_kept}
 use Rattle.calm_law.proofs.Sends.{MayDo, send_kept}
 use Rattle.calm_law.proofs.Rises.{up_kept}
@@ -41,7 +41,7 @@ May r o now = (item : Item) → o ≡ Some item → MayDo r (entry item now)
 abbrev pub RidesOn : (Option Ldata → List Ldata → Type 0) → (Option Ldata → List Ldata → Type 0) → List Entry → Tunnel → TunnelEvent → Type 0
 RidesOn E F r t (Send octets) = Steps E F (deed (channel r) (entry (Put octets) t.now))
 RidesOn E F r t Renew = channel r ≡ Fresh → Steps E F (deed (channel r) (entry Renewed t.now))
-RidesOn E F r t (Down age) = (item : Item) → got (slice_get t.network.down age) ≡ Some item → Steps E F (deed (channel r) (entry item t.now))
+RidesOn E F r t (Down age) = ((item : Item) → got (slice_get t.network.down age) ≡ Some item → Steps E F (deed (channel r) (entry item t.now))) × Strays E F (channel r) t.gateway.channel
 RidesOn E F r t (Carried con) = (f : Ldata) (q : List Ldata) → t.gateway.bus ≡ f ∷ [] → E (Some f) q → F None (q ++ con ∷ [])
 RidesOn E F r t (Heard frames) = (fly : Option Ldata) (q : List Ldata) → E fly q → F fly (q ++ frames)
 RidesOn E F r t (Pass ms) = (q : List Ldata) → (channel r ≡ Fresh) ⊎ ((q ≡ []) × HasPlace (channel r)) → E None q → F None q
@@ -79,7 +79,7 @@ module _ (E F : Option Ldata → List Ldata → Type 0) (r : List Entry) (presen
   by_event put Renew can calm may to = inl (renew_kept E F r present up down waiting me acted putted now door stage under pulse m ups downs h (may Renewed refl) to)
   by_event put (Up age) can calm may to = elim (up_kept E r present up down waiting me acted putted now door stage under pulse m ups downs h age calm) [ inl g ↦ inl (rides_over E F r (after t (Up age)) to g) | inr p ↦ inr (inl p) ]
   by_event put (UpRefused age status) can calm may to = absurd calm
-  by_event put (Down age) can calm may to = got_case age (down_kept E F r present up down waiting me acted putted now door stage under pulse m ups downs h age calm may to)
+  by_event put (Down age) can calm may to = got_case age (down_kept E F r present up down waiting me acted putted now door stage under pulse m ups downs h age calm may to.0 to.1)
   by_event put (LoseUp age) can calm may to = absurd calm
   by_event put (LoseDown age) can calm may to = absurd calm
   by_event put (Carried con) can calm may to = inl (carried_kept E F r present up down waiting me acted putted now door stage under pulse m ups downs h con calm to (con_reads me))
@@ -271,7 +271,7 @@ nobody_rides r t (From endpoint octets) = λ fly q h. tt
 nobody_rides r t Renew = λ fresh. nobody_steps (deed (channel r) (entry Renewed t.now))
 nobody_rides r t (Up age) = λ fly q h. tt
 nobody_rides r t (UpRefused age status) = λ fly q h. tt
-nobody_rides r t (Down age) = λ item is. nobody_steps (deed (channel r) (entry item t.now))
+nobody_rides r t (Down age) = (λ item is. nobody_steps (deed (channel r) (entry item t.now)), λ l y is has stray fly q h. tt)
 nobody_rides r t (LoseUp age) = λ fly q h. tt
 nobody_rides r t (LoseDown age) = λ fly q h. tt
 nobody_rides r t (Carried con) = λ f q b h. tt

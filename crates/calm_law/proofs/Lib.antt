@@ -16,6 +16,7 @@ pub mod Law
 pub mod Tries
 pub mod Tally
 pub mod TunnelTold
+pub mod OwnFrames
 pub mod Scripts
 pub mod Disturbances
 pub mod Phases

@@ -24,7 +24,8 @@ use Rattle.calm_law.proofs.Short.{IsShort, SendsShort, AreShort}
 use Rattle.calm_law.proofs.Law.{Keeps, idly, kept}
 use Rattle.calm_law.proofs.Tries.{none_fails}
 use Rattle.calm_law.specs.CalmCounts.{ComeForRequests}
-use Rattle.calm_law.proofs.Tally.{come_for_requests}
+use Rattle.calm_law.proofs.OwnFrames.{all_own}
+use Rattle.calm_law.proofs.Tally.{AreOwn, come_for_requests}
 
 -- ---- each event
 
@@ -125,7 +126,10 @@ module _ (start : World) (events : List Event) (f : IsFresh start) (l : IsLegal 
       let P : Tunnel → Type 0 = λ t. KeepsItsChannel (tunnel_record t (tunnel_events start events)) in
       subst KeepsItsChannel (sym (records start events)) (subst P (sym f.tunnel) (kept (me start) (tunnel_events start events) it.0 it.1 it.2))
 
+  own_all : AreOwn (fresh (me start)) (tunnel_events start events)
+  own_all = let P : Tunnel → Type 0 = λ t. AreOwn t (tunnel_events start events) in subst P f.tunnel (all_own start events f l)
+
   pub come_on_line : ComeForRequests (record_of start events)
   come_on_line =
       let P : Tunnel → Type 0 = λ t. ComeForRequests (tunnel_record t (tunnel_events start events)) in
-      subst ComeForRequests (sym (records start events)) (subst P (sym f.tunnel) (come_for_requests (me start) (tunnel_events start events) it.0 it.1 it.2))
+      subst ComeForRequests (sym (records start events)) (subst P (sym f.tunnel) (come_for_requests (me start) (tunnel_events start events) own_all it.0 it.1 it.2))

@@ -3,7 +3,6 @@ use Rattle.std.proofs.Common.{◌≡◌, ℕ, ◌+◌, List, [], ◌∷◌, ◌+
 use Rattle.knx_model.specs.declared.frames.cemi.Ldata.{Ldata}
 use Rattle.knx_model.specs.Cemi.{Written as cemi_octets}
 use Rattle.line_model.specs.ChannelLost.{is_confirmation_of}
-use Rattle.line_model.specs.ClientView.{counts}
 use Rattle.line_model.specs.Reading.{ldata_in}
 use Rattle.line_law.proofs.Alike.{none_of}
 use Rattle.calm_law.proofs.State.{is_con_frame, one_if, cons_in, IsItsOwn, AreItsOwn}
@@ -36,5 +35,5 @@ pub not_or : (b : Bool) → (not b || b) ≡ true
 not_or true = refl
 not_or false = refl
 
-pub own_counts : (last : Option Ldata) (y : Ldata) → IsItsOwn last y → counts last (ldata_in (cemi_octets y)) ≡ true
+pub own_counts : (last : Option Ldata) (y : Ldata) → IsItsOwn last y → (not (is_con_frame y) || is_confirmation_of last (ldata_in (cemi_octets y))) ≡ true
 own_counts last y own = ap (λ b. not (is_con_frame y) || b) (same_con last y own) ∙ not_or (is_con_frame y)

@@ -1,5 +1,5 @@
 -- The state of a tunnel that is calm, by what is under way in it.
-use Rattle.std.proofs.Common.{◌≡◌, ℕ, ◌+◌, ◌≤◌, ◌⊎◌, List, [], ◌∷◌, ◌++◌, length, Bool, true, false, Option, Some, None, refl}
+use Rattle.std.proofs.Common.{◌≡◌, ℕ, ◌+◌, ◌≤◌, ◌⊎◌, List, [], ◌∷◌, ◌++◌, length, Bool, true, false, Option, Some, None, refl, sym, ◌∙◌}
 use Rattle.knx_model.specs.declared.address.IndAddr.{IndAddr}
 use Rattle.knx_model.specs.declared.frames.cemi.Ldata.{Ldata}
 use Rattle.knx_model.specs.declared.frames.ip.IpFrame.{IpFrame}
@@ -11,7 +11,7 @@ use Rattle.line_model.specs.Gateway.{Request, Channel, next_number}
 use Rattle.line_model.specs.Tunnel.{Tunnel}
 use Rattle.line_model.specs.Record.{Entry}
 use Rattle.line_model.specs.ChannelLost.{is_confirmation, is_confirmation_of}
-use Rattle.line_model.specs.ClientView.{Fresh, Sought, Deed, Puts, Takes, Loses, Nothing, channel}
+use Rattle.line_model.specs.ClientView.{ClientChannel, Fresh, Sought, Open, own_address, is_stray, Deed, Puts, Takes, Loses, Nothing, channel}
 use Rattle.line_model.specs.Renews.{has_renewed, owed, to_last_poll, to_poll_before}
 use Rattle.line_model.specs.Sendings.{end_got}
 use Rattle.line_model.specs.LinkStory.{newest_time}
@@ -252,6 +252,26 @@ Steps E F (Puts octets) = (f : Ldata) (q : List Ldata) → ldata_in octets ≡ S
 Steps E F (Takes octets) = (fly : Option Ldata) (y : Ldata) (q : List Ldata) → cemi_octets y ≡ octets → E fly (y ∷ q) → F fly q
 Steps E F Loses = Unit {0}
 Steps E F Nothing = (fly : Option Ldata) (q : List Ldata) → E fly q → F fly q
+
+-- the gateway's request with these octets isn't acknowledged
+abbrev pub RequestHas : Option Request → List ℕ → Type 0
+RequestHas None octets = ⊥
+RequestHas (Some r) octets = r.frame ≡ octets
+
+abbrev pub OutHas : Option Channel → List ℕ → Type 0
+OutHas None octets = ⊥
+OutHas (Some c) octets = RequestHas c.outstanding octets
+
+-- an indication to another device than the tunnel is taken from what rides, and is nothing
+abbrev pub Strays : (Option Ldata → List Ldata → Type 0) → (Option Ldata → List Ldata → Type 0) → ClientChannel → Option Channel → Type 0
+Strays E F ch out = (l : List Entry) (y : Ldata) → ch ≡ Open 1 l → OutHas out (cemi_octets y) → is_stray (own_address l) (ldata_in (cemi_octets y)) ≡ true → (fly : Option Ldata) (q : List Ldata) → E fly (y ∷ q) → F fly q
+
+-- or there is none
+abbrev pub NoStrays : ClientChannel → Option Channel → Type 0
+NoStrays ch out = (l : List Entry) (cemi : List ℕ) → ch ≡ Open 1 l → OutHas out cemi → is_stray (own_address l) (ldata_in cemi) ≡ false
+
+pub none_strays : (E F : Option Ldata → List Ldata → Type 0) (ch : ClientChannel) (out : Option Channel) → NoStrays ch out → Strays E F ch out
+none_strays E F ch out none = λ l y is has stray fly q h. absurd (let z : false ≡ true = sym (none l (cemi_octets y) is has) ∙ stray in cc)
 
 -- what a request of the gateway can carry
 pub record Fits (y : Ldata) : Type 0 where

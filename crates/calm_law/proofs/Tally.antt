@@ -11,16 +11,16 @@ use Rattle.line_model.specs.Reading.{datagram_in, ldata_in, is_connect_request, 
 use Rattle.line_model.specs.Record.{Entry, Item, Put, Renewed, Got, Quiet, entry, got_in, item_of, noted, tunnel_record}
 use Rattle.line_model.specs.Tunnel.{Tunnel, TunnelEvent, Send, From, Renew, Up, UpRefused, Down, LoseUp, LoseDown, Carried, Heard, Repeat, Close, Pass, Elsewhere, Commissions, IsLegal, after, fresh, replay, step}
 use Rattle.line_model.specs.ChannelLost.{Own, own, confirmed, last_frame, expected, beats, is_confirmation, is_none, is_request, acknowledges, answers_beat, confirms, delivers, has_lapsed, is_lost}
-use Rattle.line_model.specs.ClientView.{ClientChannel, Fresh, Sought, RefusedBy, Unanswered, Open, Lost, Deed, Puts, Takes, Loses, Nothing, after_entry, as_counted, channel, deed, deed_in, deed_of, or_takes}
+use Rattle.line_model.specs.ClientView.{ClientChannel, Fresh, Sought, RefusedBy, Unanswered, Open, Lost, Deed, Puts, Takes, Loses, Nothing, after_entry, own_address, as_counted, channel, deed, deed_in, deed_of, or_takes}
 use Rattle.line_model.specs.Faults.{answers_heartbeat, datagrams_taken, is_counted}
-use Rattle.line_model.specs.Gateway.{next_number}
+use Rattle.line_model.specs.Gateway.{Channel, next_number}
 use Rattle.line_model.specs.Leaves.{StaysOpen}
 use Rattle.line_model.specs.Renews.{MayLeave}
 use Rattle.calm_law.specs.CalmCounts.{is_put, requests_put, is_of_device, frames_taken, ComeForRequests}
 use Rattle.calm_law.specs.CalmTunnel.{AreCalm, IsCalm, IsKept}
 use Rattle.calm_law.proofs.Tokens.{Fall}
 use Rattle.calm_law.proofs.Seen.{Seen}
-use Rattle.calm_law.proofs.State.{Door, Shut, Knocked, Replied, Ajar, Stage, Rising, Riding, Past, Under, Pulse, Nums, DoorIs, Going, awaited, sent_at, one_if}
+use Rattle.calm_law.proofs.State.{Door, Shut, Knocked, Replied, Ajar, Stage, Rising, Riding, Past, Under, Pulse, Nums, DoorIs, Going, awaited, sent_at, one_if, NoStrays}
 use Rattle.calm_law.proofs.Falls.{not_passed}
 use Rattle.calm_law.proofs.Sends.{MayDo}
 use Rattle.calm_law.proofs.Owning.{not_or}
@@ -143,13 +143,13 @@ put_weighs c s conf now (Some q) few = by_test (q.channel == c) few where
   by_test false few = same_weighs s conf
 
 -- each request that is put counts
-puts_counted : (last : Option Ldata) (b : Bool) (o : Option RequestFrame) → as_counted last (or_takes (deed_of Puts b o) Nothing) ≡ or_takes (deed_of Puts b o) Nothing
-puts_counted last b None = refl
-puts_counted last true (Some q) = refl
-puts_counted last false (Some q) = refl
+puts_counted : (address : Option IndAddr) (last : Option Ldata) (b : Bool) (o : Option RequestFrame) → as_counted address last (or_takes (deed_of Puts b o) Nothing) ≡ or_takes (deed_of Puts b o) Nothing
+puts_counted address last b None = refl
+puts_counted address last true (Some q) = refl
+puts_counted address last false (Some q) = refl
 
-counted_weighs : (last : Option Ldata) (c : ℕ) (s : Own) (conf : Bool) (now : ℕ) (o : Option RequestFrame) → length (after_put c s now o).sent ≤ 1 → OpenWeighs false (after_put c s now o) (put_confirmed c s conf o) (as_counted last (put_deed c s o)) s conf
-counted_weighs last c s conf now o few = subst (λ d. OpenWeighs false (after_put c s now o) (put_confirmed c s conf o) d s conf) (sym (puts_counted last (is_request c o && is_none s.sent) o)) (put_weighs c s conf now o few)
+counted_weighs : (address : Option IndAddr) (last : Option Ldata) (c : ℕ) (s : Own) (conf : Bool) (now : ℕ) (o : Option RequestFrame) → length (after_put c s now o).sent ≤ 1 → OpenWeighs false (after_put c s now o) (put_confirmed c s conf o) (as_counted address last (put_deed c s o)) s conf
+counted_weighs address last c s conf now o few = subst (λ d. OpenWeighs false (after_put c s now o) (put_confirmed c s conf o) d s conf) (sym (puts_counted address last (is_request c o && is_none s.sent) o)) (put_weighs c s conf now o few)
 
 none_weighs : (a b : ClientChannel) → pending a ≡ 0 → is_up b ≡ 0 → Weighs false a Nothing b
 none_weighs a b p q = omega (arith, p, q)
@@ -164,7 +164,7 @@ put_entry Fresh octets now kept few = either_fresh (is_connect_request (datagram
 put_entry (Sought since) octets now kept few = omega arith
 put_entry (RefusedBy status) octets now kept few = absurd kept
 put_entry Unanswered octets now kept few = absurd kept
-put_entry (Open c l) octets now kept few = counted_weighs (last_frame c l) c (own c l) (confirmed c l) now (request_in (datagram_in octets)) few
+put_entry (Open c l) octets now kept few = counted_weighs (own_address l) (last_frame c l) c (own c l) (confirmed c l) now (request_in (datagram_in octets)) few
 put_entry (Lost c) octets now kept few = absurd kept
 
 quiet_entry : (ch : ClientChannel) (now : ℕ) → IsKept ch → IsKept (after_entry ch (entry Quiet now)) → Weighs false (after_entry ch (entry Quiet now)) (deed ch (entry Quiet now)) ch
@@ -177,7 +177,7 @@ quiet_entry (Sought since) now kept still = by_test (has_passed 10000 since now)
 quiet_entry (RefusedBy status) now kept still = absurd kept
 quiet_entry Unanswered now kept still = absurd kept
 quiet_entry (Open c l) now kept still = by_test (is_lost c l (entry Quiet now)) still where
-  by_test : (b : Bool) → IsKept (if b then Lost c else Open c (entry Quiet now ∷ l)) → Weighs false (if b then Lost c else Open c (entry Quiet now ∷ l)) (if b then Loses else as_counted (last_frame c l) (deed_in c l (entry Quiet now))) (Open c l)
+  by_test : (b : Bool) → IsKept (if b then Lost c else Open c (entry Quiet now ∷ l)) → Weighs false (if b then Lost c else Open c (entry Quiet now ∷ l)) (if b then Loses else as_counted (own_address l) (last_frame c l) (deed_in c l (entry Quiet now))) (Open c l)
   by_test true k = absurd k
   by_test false k = same_weighs (own c l) (confirmed c l)
 quiet_entry (Lost c) now kept still = absurd kept
@@ -214,34 +214,34 @@ module _ (octets : List ℕ) (now : ℕ) where
       OpenWeighs (not (answers_beat 1 (beats 1 l) now (state_response_in g) && not (has_lapsed 1 l now)))
       (if acknowledges 1 (own 1 l) (ack_in g) then (let z : Own = record { number = next_number (own 1 l).number; sent = [] } in z) else own 1 l)
       (if confirms 1 (expected 1 l) (last_frame 1 l) (request_in g) then true else confirmed 1 l)
-      (as_counted (last_frame 1 l) (deed_of Takes (delivers 1 (expected 1 l) (request_in g)) (request_in g))) (own 1 l) (confirmed 1 l)
+      (as_counted (own_address l) (last_frame 1 l) (deed_of Takes (delivers 1 (expected 1 l) (request_in g)) (request_in g))) (own 1 l) (confirmed 1 l)
 
   open_entry : (l : List Entry) → IsKept (after_entry (Open 1 l) x) → (is_lost 1 l x ≡ false → OpenAfter l (got_in (Got octets))) → Weighs (not (answers_heartbeat (Open 1 l) x)) (after_entry (Open 1 l) x) (deed (Open 1 l) x) (Open 1 l)
   unfolding after_entry deed
   open_entry l still f = by_test (is_lost 1 l x) refl still where
-    by_test : (b : Bool) → is_lost 1 l x ≡ b → IsKept (if b then Lost 1 else Open 1 (x ∷ l)) → Weighs (not (answers_heartbeat (Open 1 l) x)) (if b then Lost 1 else Open 1 (x ∷ l)) (if b then Loses else as_counted (last_frame 1 l) (deed_in 1 l x)) (Open 1 l)
+    by_test : (b : Bool) → is_lost 1 l x ≡ b → IsKept (if b then Lost 1 else Open 1 (x ∷ l)) → Weighs (not (answers_heartbeat (Open 1 l) x)) (if b then Lost 1 else Open 1 (x ∷ l)) (if b then Loses else as_counted (own_address l) (last_frame 1 l) (deed_in 1 l x)) (Open 1 l)
     by_test true is k = absurd k
     by_test false is k = f is
 
-  got_kind : (ch : ClientChannel) (f : IpFrame) → Kind now ch f → got_in (Got octets) ≡ Some f → IsKept (after_entry ch x) → Weighs (not (answers_heartbeat ch x)) (after_entry ch x) (deed ch x) ch
+  got_kind : (ch : ClientChannel) (out : Option Channel) (f : IpFrame) → NoStrays ch out → Kind now ch out f → got_in (Got octets) ≡ Some f → IsKept (after_entry ch x) → Weighs (not (answers_heartbeat ch x)) (after_entry ch x) (deed ch x) ch
   unfolding after_entry deed
-  got_kind ch f (Opening tunnel f_is is) reads still =
+  got_kind ch out f none (Opening tunnel f_is is) reads still =
       let d : got_in (Got octets) ≡ Some (ConnectResponse 1 0 tunnel) = reads ∙ ap (λ z. Some z) f_is in
       subst (λ z. Weighs (not (answers_heartbeat z x)) (after_entry z x) (deed z x) z) (sym is) (rw (not_passed 9999 now, d) (opening_weighs tunnel d))
-  got_kind ch f (Acked l n f_is is owns) reads still =
+  got_kind ch out f none (Acked l n f_is is owns) reads still =
       subst (λ z. IsKept (after_entry z x) → Weighs (not (answers_heartbeat z x)) (after_entry z x) (deed z x) z) (sym is)
       (λ k. open_entry l k (λ kept. subst (OpenAfter l) (sym (reads ∙ ap (λ z. Some z) f_is)) (acked (own 1 l) owns))) still
     where
       acked : (s : Own) → s ≡ (let o : Own = record { number = n; sent = now ∷ [] } in o)
           → OpenWeighs true (if acknowledges 1 s (ack_in (Some (TunnellingAck 1 n 0))) then (let z : Own = record { number = next_number s.number; sent = [] } in z) else s) (confirmed 1 l) Nothing s (confirmed 1 l)
       acked s e = subst (λ (s : Own). OpenWeighs true (if acknowledges 1 s (ack_in (Some (TunnellingAck 1 n 0))) then (let z : Own = record { number = next_number s.number; sent = [] } in z) else s) (confirmed 1 l) Nothing s (confirmed 1 l)) (sym e) (rw (eq-eqb n n refl) (omega arith))
-  got_kind ch f (Brought l n cemi f_is is next con its) reads still =
+  got_kind ch out f none (Brought l n cemi f_is is next con its has) reads still =
       subst (λ z. IsKept (after_entry z x) → Weighs (not (answers_heartbeat z x)) (after_entry z x) (deed z x) z) (sym is)
       (λ k. open_entry l k (λ kept. subst (OpenAfter l) (sym (reads ∙ ap (λ z. Some z) f_is)) (brought (expected 1 l) next))) still
     where
-      brought : (e : ℕ) → e ≡ n → OpenWeighs true (own 1 l) (if confirms 1 e (last_frame 1 l) (request_in (Some (TunnellingRequest 1 n cemi))) then true else confirmed 1 l) (as_counted (last_frame 1 l) (deed_of Takes (delivers 1 e (request_in (Some (TunnellingRequest 1 n cemi)))) (request_in (Some (TunnellingRequest 1 n cemi))))) (own 1 l) (confirmed 1 l)
-      brought e same = rw (same, eq-eqb n n refl, its, not_or (is_confirmation (ldata_in cemi))) (brought_weighs (own 1 l) (confirmed 1 l) (is_confirmation (ldata_in cemi)) con)
-  got_kind ch f (Lives l f_is is awaits) reads still =
+      brought : (e : ℕ) → e ≡ n → OpenWeighs true (own 1 l) (if confirms 1 e (last_frame 1 l) (request_in (Some (TunnellingRequest 1 n cemi))) then true else confirmed 1 l) (as_counted (own_address l) (last_frame 1 l) (deed_of Takes (delivers 1 e (request_in (Some (TunnellingRequest 1 n cemi)))) (request_in (Some (TunnellingRequest 1 n cemi))))) (own 1 l) (confirmed 1 l)
+      brought e same = rw (same, eq-eqb n n refl, none l cemi is has, its, not_or (is_confirmation (ldata_in cemi))) (brought_weighs (own 1 l) (confirmed 1 l) (is_confirmation (ldata_in cemi)) con)
+  got_kind ch out f none (Lives l f_is is awaits) reads still =
       subst (λ z. IsKept (after_entry z x) → Weighs (not (answers_heartbeat z x)) (after_entry z x) (deed z x) z) (sym is)
       (λ k. open_entry l k (λ kept. subst (OpenAfter l) (sym (reads ∙ ap (λ z. Some z) f_is)) (alive (or_left (has_lapsed 1 l now) _ kept)))) still
     where
@@ -252,20 +252,20 @@ module _ (octets : List ℕ) (now : ℕ) where
 
 module _ (E : Option Ldata → List Ldata → Type 0) (r : List Entry) (t : Tunnel) (now : ℕ) where
   -- the entry of an event: what it may be
-  item_weighs : (item : Item) (t' : Tunnel) → Inv E r t → Inv E (entry item now ∷ r) t' → StaysOpen (entry item now ∷ r) → MayDo r (entry item now) → ((octets : List ℕ) → item ≡ Got octets → (f : IpFrame) × Kind now (channel r) f × (got_in (Got octets) ≡ Some f))
+  item_weighs : (item : Item) (t' : Tunnel) → NoStrays (channel r) t.gateway.channel → Inv E r t → Inv E (entry item now ∷ r) t' → StaysOpen (entry item now ∷ r) → MayDo r (entry item now) → ((octets : List ℕ) → item ≡ Got octets → (f : IpFrame) × Kind now (channel r) t.gateway.channel f × (got_in (Got octets) ≡ Some f))
       → Weighs (is_counted r (entry item now)) (channel (entry item now ∷ r)) (deed (channel r) (entry item now)) (channel r)
-  item_weighs (Put octets) t' before after stays may kind = put_entry (channel r) octets now (kept_of E r t before stays.1) (few_of E (entry (Put octets) now ∷ r) t' after stays)
-  item_weighs Renewed t' before after stays may kind =
+  item_weighs (Put octets) t' none before after stays may kind = put_entry (channel r) octets now (kept_of E r t before stays.1) (few_of E (entry (Put octets) now ∷ r) t' after stays)
+  item_weighs Renewed t' none before after stays may kind =
       subst (λ z. Weighs false (after_entry z (entry Renewed now)) (deed z (entry Renewed now)) z) (sym (renew_fresh E r t now (going_of E r t before stays.1) may)) (renewed_entry now)
-  item_weighs (Got octets) t' before after stays may kind = let k = kind octets refl in got_kind octets now (channel r) k.0 k.1 k.2 (kept_of E (entry (Got octets) now ∷ r) t' after stays)
-  item_weighs Quiet t' before after stays may kind = quiet_entry (channel r) now (kept_of E r t before stays.1) (kept_of E (entry Quiet now ∷ r) t' after stays)
+  item_weighs (Got octets) t' none before after stays may kind = let k = kind octets refl in got_kind octets now (channel r) t.gateway.channel k.0 none k.1 k.2 (kept_of E (entry (Got octets) now ∷ r) t' after stays)
+  item_weighs Quiet t' none before after stays may kind = quiet_entry (channel r) now (kept_of E r t before stays.1) (kept_of E (entry Quiet now ∷ r) t' after stays)
 
 same_got : (a b : List ℕ) → ◌≡◌ {A = Option Item} (Some (Got a)) (Some (Got b)) → a ≡ b
 same_got a b e = cc
 
 module _ (E : Option Ldata → List Ldata → Type 0) (r : List Entry) (t : Tunnel) where
   abbrev KindAt : TunnelEvent → Type 0
-  KindAt e = (octets : List ℕ) → item_of t e ≡ Some (Got octets) → (f : IpFrame) × Kind t.now (channel r) f × (got_in (Got octets) ≡ Some f)
+  KindAt e = (octets : List ℕ) → item_of t e ≡ Some (Got octets) → (f : IpFrame) × Kind t.now (channel r) t.gateway.channel f × (got_in (Got octets) ≡ Some f)
 
   kind_at : (e : TunnelEvent) → IsCalm t e → Going E r t → KindAt e
   kind_at (Down age) calm g octets is =
@@ -303,24 +303,29 @@ module _ (E : Option Ldata → List Ldata → Type 0) (r : List Entry) (t : Tunn
   got_now (Pass ms) octets is = absurd (cc)
   got_now Elsewhere octets is = absurd (cc)
 
-  pub more : (e : TunnelEvent) → IsCalm t e → Inv E r t → (o : Option Item) → item_of t e ≡ o → Inv E (noted o (step t e).now r) (step t e) → Keeps (noted o (step t e).now r) → (StaysOpen r → Balance r) → StaysOpen (noted o (step t e).now r) → Balance (noted o (step t e).now r)
-  more e calm before None is after keeps b stays = b stays
-  more e calm before (Some item) is after keeps b stays =
+  pub more : (e : TunnelEvent) → NoStrays (channel r) t.gateway.channel → IsCalm t e → Inv E r t → (o : Option Item) → item_of t e ≡ o → Inv E (noted o (step t e).now r) (step t e) → Keeps (noted o (step t e).now r) → (StaysOpen r → Balance r) → StaysOpen (noted o (step t e).now r) → Balance (noted o (step t e).now r)
+  more e none calm before None is after keeps b stays = b stays
+  more e none calm before (Some item) is after keeps b stays =
       let n : ℕ = (step t e).now in
       balance_more (entry item n) r (b stays.1)
-      (item_weighs E r t n item (step t e) before after stays (may_of (Some item) n r keeps item refl)
+      (item_weighs E r t n item (step t e) none before after stays (may_of (Some item) n r keeps item refl)
       (λ octets same. (let got_is : item_of t e ≡ Some (Got octets) = is ∙ ap (λ z. Some z) same in
       let k = kind_at e calm (going_of E r t before stays.1) octets got_is in
-      (k.0, subst (λ z. Kind z (channel r) k.0) (sym (got_now e octets got_is)) k.1, k.2))))
+      (k.0, subst (λ z. Kind z (channel r) t.gateway.channel k.0) (sym (got_now e octets got_is)) k.1, k.2))))
 
-balanced : (me : IndAddr) (events : List TunnelEvent) → IsLegal Commissions (fresh me) events → AreCalm (fresh me) events → Keeps (tunnel_record (fresh me) events) → StaysOpen (tunnel_record (fresh me) events) → Balance (tunnel_record (fresh me) events)
-balanced me [] l c k = λ stays. record { holds = omega arith }
-balanced me (e ∷ events) l c k =
+-- no indication to another device comes
+abbrev pub AreOwn : Tunnel → List TunnelEvent → Type 0
+AreOwn start [] = Unit {0}
+AreOwn start (e ∷ events) = NoStrays (channel (tunnel_record start events)) (replay start events).gateway.channel × AreOwn start events
+
+balanced : (me : IndAddr) (events : List TunnelEvent) → AreOwn (fresh me) events → IsLegal Commissions (fresh me) events → AreCalm (fresh me) events → Keeps (tunnel_record (fresh me) events) → StaysOpen (tunnel_record (fresh me) events) → Balance (tunnel_record (fresh me) events)
+balanced me [] own l c k = λ stays. record { holds = omega arith }
+balanced me (e ∷ events) own l c k =
     let r : List Entry = tunnel_record (fresh me) events in
     let t : Tunnel = replay (fresh me) events in
     let o : Option Item = item_of t e in
     let before : Keeps r = keeps_before o (step t e).now r k in
-    more _ r t e c.0 (always me events l.1 c.1 before) o refl (always me (e ∷ events) l c k) k (balanced me events l.1 c.1 before)
+    more _ r t e own.0 c.0 (always me events l.1 c.1 before) o refl (always me (e ∷ events) l c k) k (balanced me events own.1 l.1 c.1 before)
 
 up_one : (ch : ClientChannel) → is_up ch ≤ 1
 up_one Fresh = omega arith
@@ -330,8 +335,8 @@ up_one Unanswered = omega arith
 up_one (Open c l) = omega arith
 up_one (Lost c) = omega arith
 
-pub come_for_requests : (me : IndAddr) (events : List TunnelEvent) → IsLegal Commissions (fresh me) events → AreCalm (fresh me) events → Keeps (tunnel_record (fresh me) events) → ComeForRequests (tunnel_record (fresh me) events)
-come_for_requests me events l c k = λ stays.
-    (let b = (balanced me events l c k stays).holds in
+pub come_for_requests : (me : IndAddr) (events : List TunnelEvent) → AreOwn (fresh me) events → IsLegal Commissions (fresh me) events → AreCalm (fresh me) events → Keeps (tunnel_record (fresh me) events) → ComeForRequests (tunnel_record (fresh me) events)
+come_for_requests me events own l c k = λ stays.
+    (let b = (balanced me events own l c k stays).holds in
     let one = up_one (channel (tunnel_record (fresh me) events)) in
     omega (arith, b, one))

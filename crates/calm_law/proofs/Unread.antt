@@ -42,7 +42,8 @@ use Rattle.calm_law.proofs.Law.{Inv, Keeps, May, RidesOn, begins, keeps_before, 
 use Rattle.calm_law.proofs.OnLine.{event_calm, owned}
 use Rattle.calm_law.proofs.Short.{AreShort, IsShort, SendsShort}
 use Rattle.calm_law.proofs.ShortValues.{HasReadCode, RangedService, ranged_group}
-use Rattle.calm_law.proofs.State.{Steps}
+use Rattle.calm_law.proofs.OwnFrames.{own_frames}
+use Rattle.calm_law.proofs.State.{NoStrays, Steps, none_strays}
 
 -- ---- a frame that asks for no value of a group
 
@@ -220,20 +221,20 @@ module _ (start : World) where
         (let s = sends h.devices_are in
         record { devices_are = keeps h.devices_are; flies = h.flies; comes = every_append IsKnown q (f ∷ []) h.comes (sent_known b f (own f refl) short s.0 s.1, tt) })
 
-    rides : (e : Event) → Owned w → line.IsCalm w e → SendsShort w e → ((item : Item) → item_of w.tunnel (tunnel_event w e) ≡ Some item → IsUnasked (deed (channel r) (entry item (tunnel.after w.tunnel (tunnel_event w e)).now))) → So (devices_after w e) (tunnel_event w e)
-    rides (Send octets) own calm short asks = steps w.devices (deed (channel r) (entry (Put octets) now)) (asks (Put octets) refl)
-    rides (From endpoint octets) own calm short asks = absurd calm
-    rides Renew own calm short asks = λ fresh. steps w.devices (deed (channel r) (entry Renewed now)) (asks Renewed refl)
-    rides (Up age) own calm short asks = λ fly q h. h
-    rides (UpRefused age status) own calm short asks = absurd calm
-    rides (Down age) own calm short asks = λ item is. steps w.devices (deed (channel r) (entry item now)) (asks item is)
-    rides (LoseUp age) own calm short asks = absurd calm
-    rides (LoseDown age) own calm short asks = absurd calm
-    rides (Bus left_out) own calm short asks = over_bus left_out w.tunnel.gateway.bus refl
-    rides (BusTorn fresh octets) own calm short asks = absurd calm
-    rides (BusWorn octets) own calm short asks = absurd calm
-    rides (BusAgain device) own calm short asks = absurd calm
-    rides (DevSend device gateway left_out) own calm short asks =
+    rides : NoStrays (channel r) w.tunnel.gateway.channel → (e : Event) → Owned w → line.IsCalm w e → SendsShort w e → ((item : Item) → item_of w.tunnel (tunnel_event w e) ≡ Some item → IsUnasked (deed (channel r) (entry item (tunnel.after w.tunnel (tunnel_event w e)).now))) → So (devices_after w e) (tunnel_event w e)
+    rides none (Send octets) own calm short asks = steps w.devices (deed (channel r) (entry (Put octets) now)) (asks (Put octets) refl)
+    rides none (From endpoint octets) own calm short asks = absurd calm
+    rides none Renew own calm short asks = λ fresh. steps w.devices (deed (channel r) (entry Renewed now)) (asks Renewed refl)
+    rides none (Up age) own calm short asks = λ fly q h. h
+    rides none (UpRefused age status) own calm short asks = absurd calm
+    rides none (Down age) own calm short asks = (λ item is. steps w.devices (deed (channel r) (entry item now)) (asks item is), none_strays (Rides w.devices) (Rides w.devices) (channel r) w.tunnel.gateway.channel none)
+    rides none (LoseUp age) own calm short asks = absurd calm
+    rides none (LoseDown age) own calm short asks = absurd calm
+    rides none (Bus left_out) own calm short asks = over_bus left_out w.tunnel.gateway.bus refl
+    rides none (BusTorn fresh octets) own calm short asks = absurd calm
+    rides none (BusWorn octets) own calm short asks = absurd calm
+    rides none (BusAgain device) own calm short asks = absurd calm
+    rides none (DevSend device gateway left_out) own calm short asks =
         let sends : AllAlone w.devices → IfSome (waiting_at w device) (λ f. (f.group ≡ false) × (is_some (start.devices device) ≡ true)) = λ h. sends_alone w device waiting_frame (λ d k. first_alone d.unsent k) h (w.devices device) refl in
         let alone : AllAlone w.devices → IfSome (waiting_at w device) (λ f. f.group ≡ false) = λ h. first_of (waiting_at w device) (sends h) in
         subst (λ (g : AtGateway). So (devices_after w (DevSend device gateway left_out)) (heard g (waiting_at w device))) (sym calm.0)
@@ -243,17 +244,17 @@ module _ (start : World) where
         first_of : (o : Option Ldata) → IfSome o (λ f. (f.group ≡ false) × (is_some (start.devices device) ≡ true)) → IfSome o (λ f. f.group ≡ false)
         first_of None k = tt
         first_of (Some f) k = k.0
-    rides (DevRepeat device gateway) own calm short asks =
+    rides none (DevRepeat device gateway) own calm short asks =
         subst (λ (g : AtGateway). So (devices_after w (DevRepeat device gateway)) (heard g (repeat_at w device))) (sym calm.0)
         (comes_so device (devices_after w (DevRepeat device gateway)) (repeat_at w device) (λ f is. repeat_owned w device f own is) short (λ h. sends_alone w device repeat_frame (λ d k. again_alone d.address d.connection) h (w.devices device) refl)
         (λ h. changed_alone device (λ d. repeats d now) w.devices (λ d k. k) h))
-    rides (DevClose device) own calm short asks = λ fly q h. record { devices_are = changed_alone device shut w.devices shut_alone h.devices_are; flies = h.flies; comes = h.comes }
-    rides GwAgain own calm short asks = absurd calm
-    rides GwRepeat own calm short asks = λ fly q h. h
-    rides GwClose own calm short asks = λ fly q h. h
-    rides (Cut device) own calm short asks = absurd calm
-    rides (On device) own calm short asks = absurd calm
-    rides (Pass ms) own calm short asks = λ q where_ h. h
+    rides none (DevClose device) own calm short asks = λ fly q h. record { devices_are = changed_alone device shut w.devices shut_alone h.devices_are; flies = h.flies; comes = h.comes }
+    rides none GwAgain own calm short asks = absurd calm
+    rides none GwRepeat own calm short asks = λ fly q h. h
+    rides none GwClose own calm short asks = λ fly q h. h
+    rides none (Cut device) own calm short asks = absurd calm
+    rides none (On device) own calm short asks = absurd calm
+    rides none (Pass ms) own calm short asks = λ q where_ h. h
 
   -- ---- the law
 
@@ -305,12 +306,13 @@ module _ (start : World) where
         let n : ℕ = (tunnel.step t te).now in
         let before : Stands past = stands past legal.1 calm.1 short.1 (keeps_before o n r keeps) (asks_before o n r asks) in
         let own : Owned w = owned start past f in
+        let none : NoStrays (channel r) t.gateway.channel = own_frames start past f legal.1 in
         let may : May r o n = may_of o n r keeps in
         let asks_now : (item : Item) → o ≡ Some item → IsUnasked (deed (channel r) (entry item (tunnel.after t te).now)) = subst (λ m. (item : Item) → o ≡ Some item → IsUnasked (deed (channel r) (entry item m))) (step_now t te) (asks_of o n r asks) in
         record {
-          rides_so = step_kept (Rides w.devices) (Rides (devices_after w e)) r t te before.rides_so legal.0.tunnel (event_calm w e own calm.0 short.0) may (rides w r e own calm.0 short.0 asks_now);
+          rides_so = step_kept (Rides w.devices) (Rides (devices_after w e)) r t te before.rides_so legal.0.tunnel (event_calm w e own calm.0 short.0) may (rides w r none e own calm.0 short.0 asks_now);
           none = λ stays.
-              none_more o n r (λ item is. known_of w.devices (deed (channel r) (entry item n)) (took_at (Rides w.devices) r t te before.rides_so legal.0.tunnel (event_calm w e own calm.0 short.0) may item is (subst (λ z. StaysOpen (noted z n r)) is stays)))
+              none_more o n r (λ item is. known_of w.devices (deed (channel r) (entry item n)) (took_at (Rides w.devices) r t te none before.rides_so legal.0.tunnel (event_calm w e own calm.0 short.0) may item is (subst (λ z. StaysOpen (noted z n r)) is stays)))
               (before.none (stays_before o n r stays));
         }
 

@@ -3,7 +3,7 @@
 ghost use Rattle.std.specs.Prelude.{◌≡◌, ◌≤◌, ◌<◌, ◌+◌, ◌⊎◌, ℕ, List, IsTrue, false, length};
 ghost use Rattle.discovery.specs.Finding.{most_found};
 ghost use Rattle.line_model.specs.LinkStory.{Clock, Untold};
-ghost use Rattle.line_model.specs.Polled.{FailsWhere};
+ghost use Rattle.line_model.specs.Polled.{FailsWhere, NeverFall};
 ghost use Rattle.line_model.specs.Record.{Entry};
 ghost use Rattle.discovery_ends.specs.Going.{Awake, ListenedSo, PolledSo};
 ghost use Rattle.discovery_ends.specs.Searching.{Takes, most_datagrams};
@@ -31,7 +31,7 @@ pub fn listen<L: Link>(link: &mut L, finder: &mut Finder, most: u32) -> Result<L
     ensures untold { L.story link.old ≡ Untold → L.story link.new ≡ Untold }
     ensures inquiry { finder.new.inquiry ≡ finder.old.inquiry }
     ensures cause { FailsWhere result (L.faults link.old) (L.faults link.new) }
-    ensures count { L.faults link.old ≤ L.faults link.new }
+    ensures count { NeverFall (L.faults link.old) (L.faults link.new) }
     ensures time { L.clock link.old ≤ L.clock link.new }
     ensures events { L.place link.old ≤ L.place link.new }
     ensures script { L.script link.new ≡ L.script link.old }
@@ -68,7 +68,7 @@ fn poll<L: Link>(link: &mut L, finder: &mut Finder) -> Result<Heard, LinkFault>
     ensures untold { L.story link.old ≡ Untold → L.story link.new ≡ Untold }
     ensures inquiry { finder.new.inquiry ≡ finder.old.inquiry }
     ensures cause { FailsWhere result (L.faults link.old) (L.faults link.new) }
-    ensures count { L.faults link.old ≤ L.faults link.new }
+    ensures count { NeverFall (L.faults link.old) (L.faults link.new) }
     ensures time { L.clock link.old ≤ L.clock link.new }
     ensures events { L.place link.old ≤ L.place link.new }
     ensures script { L.script link.new ≡ L.script link.old }

@@ -1,10 +1,9 @@
 //! Looking for gateways at a host.
 
-ghost use Rattle.std.specs.Prelude.{◌≡◌, ℕ, []};
-ghost use Rattle.line_model.specs.Dialled.{TakesBack};
+ghost use Rattle.std.specs.Prelude.{◌≡◌, []};
 ghost use Rattle.line_model.specs.LinkStory.{IsNewLink};
-ghost use Rattle.line_model.specs.Polled.{FailsWhere};
-ghost use Rattle.discovery_ends.specs.Looking.{Looks};
+ghost use Rattle.line_model.specs.Polled.{none_failed};
+ghost use Rattle.discovery_ends.specs.Looking.{FailsForLink, Looks};
 ghost use Rattle.discovery_ends.specs.Searching.{SearchesNew};
 
 use crate::search::{Findings, run};
@@ -42,11 +41,11 @@ pub fn look<D: Dialer>(
 /// Searches over a link that was dialled, and hands it back.
 fn search_over<D: Dialer>(dial: &mut D, link: D::L, finder: Finder) -> Findings
     requires new { IsNewLink (D.L.story link) }
-    requires sound { D.L.faults link ≡ 0 }
+    requires sound { D.L.faults link ≡ none_failed }
     requires none { finder.found ≡ [] }
     ensures inquiry { result.finder.inquiry ≡ finder.inquiry }
     ensures searches { SearchesNew finder.inquiry (D.now dial.new).link_back result.finder.found result.ended }
-    ensures cause { (faults : ℕ) × TakesBack faults (D.now dial.old).faults (D.now dial.new).faults × FailsWhere result.ended 0 faults }
+    ensures cause { FailsForLink result.ended (D.now dial.old).faults (D.now dial.old).wanting (D.now dial.new) }
     ensures given { (D.now dial.new).given ≡ (D.now dial.old).given }
     ensures dials { (D.now dial.new).dials ≡ (D.now dial.old).dials }
 {

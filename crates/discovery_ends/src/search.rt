@@ -4,7 +4,7 @@ ghost use Rattle.std.specs.Prelude.{◌≡◌, ◌≤◌, ◌+◌, ◌↔◌, �
 ghost use Rattle.discovery.specs.Discovery.{Written};
 ghost use Rattle.discovery.specs.Finding.{request_of};
 ghost use Rattle.line_model.specs.LinkStory.{Clock, Recorded, Untold};
-ghost use Rattle.line_model.specs.Polled.{FailsWhere};
+ghost use Rattle.line_model.specs.Polled.{FailsWhere, NeverFall};
 ghost use Rattle.line_model.specs.Record.{Entry};
 ghost use Rattle.discovery_ends.specs.Going.{AgainSo, RoundSo};
 ghost use Rattle.discovery_ends.specs.Searching.{Searches, Takes, most_datagrams, recorded};
@@ -33,7 +33,7 @@ pub fn find<L: Link>(alloc: Global, link: &mut L, inquiry: Inquiry) -> Result<Fi
     ensures untold { L.story link.old ≡ Untold → L.story link.new ≡ Untold }
     ensures cause { IfOk result (λ s. FailsWhere s.ended (L.faults link.old) (L.faults link.new)) }
     ensures unsent { OnErr result (link.new ≡ link.old) }
-    ensures count { L.faults link.old ≤ L.faults link.new }
+    ensures count { NeverFall (L.faults link.old) (L.faults link.new) }
     ensures time { L.clock link.old ≤ L.clock link.new }
     ensures events { L.place link.old ≤ L.place link.new }
     ensures script { L.script link.new ≡ L.script link.old }
@@ -49,7 +49,7 @@ pub(crate) fn run<L: Link>(link: &mut L, finder: &mut Finder) -> Result<(), Link
     ensures untold { L.story link.old ≡ Untold → L.story link.new ≡ Untold }
     ensures inquiry { finder.new.inquiry ≡ finder.old.inquiry }
     ensures cause { FailsWhere result (L.faults link.old) (L.faults link.new) }
-    ensures count { L.faults link.old ≤ L.faults link.new }
+    ensures count { NeverFall (L.faults link.old) (L.faults link.new) }
     ensures time { L.clock link.old ≤ L.clock link.new }
     ensures events { L.place link.old ≤ L.place link.new }
     ensures script { L.script link.new ≡ L.script link.old }
@@ -67,7 +67,7 @@ fn again<L: Link>(link: &mut L, finder: &mut Finder, left: u32) -> Result<(), Li
     ensures untold { L.story link.old ≡ Untold → L.story link.new ≡ Untold }
     ensures inquiry { finder.new.inquiry ≡ finder.old.inquiry }
     ensures cause { FailsWhere result (L.faults link.old) (L.faults link.new) }
-    ensures count { L.faults link.old ≤ L.faults link.new }
+    ensures count { NeverFall (L.faults link.old) (L.faults link.new) }
     ensures time { L.clock link.old ≤ L.clock link.new }
     ensures events { L.place link.old ≤ L.place link.new }
     ensures script { L.script link.new ≡ L.script link.old }
@@ -87,7 +87,7 @@ fn round<L: Link>(link: &mut L, finder: &mut Finder, most: u32) -> Result<Listen
     ensures untold { L.story link.old ≡ Untold → L.story link.new ≡ Untold }
     ensures inquiry { finder.new.inquiry ≡ finder.old.inquiry }
     ensures cause { FailsWhere result (L.faults link.old) (L.faults link.new) }
-    ensures count { L.faults link.old ≤ L.faults link.new }
+    ensures count { NeverFall (L.faults link.old) (L.faults link.new) }
     ensures time { L.clock link.old ≤ L.clock link.new }
     ensures events { L.place link.old ≤ L.place link.new }
     ensures script { L.script link.new ≡ L.script link.old }

@@ -9,7 +9,7 @@ use Rattle.line_model.specs.LinkStory.{Story, places_in, newest_time, IsPlace}
 use Rattle.line_model.specs.Moments.{Moment, moments, time}
 use Rattle.line_model.specs.Log.{Job}
 use Rattle.line_model.specs.Signs.{Every}
-use Rattle.line_model.specs.ClientView.{ClientChannel, Fresh, Sought, RefusedBy, Unanswered, Open, Lost, Deed, Puts, Takes, Loses, Nothing, as_counted, channel, deed, deed_of}
+use Rattle.line_model.specs.ClientView.{ClientChannel, Fresh, Sought, RefusedBy, Unanswered, Open, Lost, Deed, Puts, Takes, Loses, Nothing, own_address, as_counted, channel, deed, deed_of}
 use Rattle.line_model.specs.ChannelLost.{is_lost, last_frame, delivers, expected}
 use Rattle.line_model.specs.Reading.{RequestFrame, request_in}
 use Rattle.line_model.specs.Asks.{HasPlace, IsRightRequest, moment_of}
@@ -53,9 +53,9 @@ got_puts (Sought since) octets now cemi e = let z : Nothing ≡ Puts cemi = e in
 got_puts (RefusedBy status) octets now cemi e = let z : Nothing ≡ Puts cemi = e in cc
 got_puts Unanswered octets now cemi e = let z : Nothing ≡ Puts cemi = e in cc
 got_puts (Open c l) octets now cemi e = by_loss (is_lost c l (entry (Got octets) now)) e where
-  by_loss : (b : Bool) → cond {A = Deed} b Loses (as_counted (last_frame c l) (deed_of Takes (delivers c (expected c l) (request_in (Rattle.line_model.specs.Record.got_in (Got octets)))) (request_in (Rattle.line_model.specs.Record.got_in (Got octets))))) ≡ Puts cemi → ⊥
+  by_loss : (b : Bool) → cond {A = Deed} b Loses (as_counted (own_address l) (last_frame c l) (deed_of Takes (delivers c (expected c l) (request_in (Rattle.line_model.specs.Record.got_in (Got octets)))) (request_in (Rattle.line_model.specs.Record.got_in (Got octets))))) ≡ Puts cemi → ⊥
   by_loss true e = let z : Loses ≡ Puts cemi = e in cc
-  by_loss false e = takes_only (delivers c (expected c l) (request_in (Rattle.line_model.specs.Record.got_in (Got octets)))) (request_in (Rattle.line_model.specs.Record.got_in (Got octets))) cemi (counted_puts (last_frame c l) (deed_of Takes (delivers c (expected c l) (request_in (Rattle.line_model.specs.Record.got_in (Got octets)))) (request_in (Rattle.line_model.specs.Record.got_in (Got octets)))) cemi e)
+  by_loss false e = takes_only (delivers c (expected c l) (request_in (Rattle.line_model.specs.Record.got_in (Got octets)))) (request_in (Rattle.line_model.specs.Record.got_in (Got octets))) cemi (counted_puts (own_address l) (last_frame c l) (deed_of Takes (delivers c (expected c l) (request_in (Rattle.line_model.specs.Record.got_in (Got octets)))) (request_in (Rattle.line_model.specs.Record.got_in (Got octets)))) cemi e)
 got_puts (Lost c) octets now cemi e = let z : Nothing ≡ Puts cemi = e in cc
 
 puts_got : (ch : ClientChannel) (what : Item) (now : ℕ) (cemi : List ℕ) → deed ch (entry what now) ≡ Puts cemi → is_got what ≡ false

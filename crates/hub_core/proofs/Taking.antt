@@ -3,9 +3,10 @@ use Rattle.std.proofs.Common.{◌≡◌, suc, ◌≤◌, Bool, true, false, List
 use Rattle.std.specs.Prelude.{◌&&◌, ◌||◌, not}
 use Rattle.std.specs.List.{AllByRecursion, list_any}
 use Rattle.knx_model.specs.declared.address.IndAddr.{IndAddr}
+use Rattle.line_model.specs.Reading.{tunnel_told}
 use Rattle.line_model.specs.Record.{Item, Put, Renewed, Got, Quiet, Entry, Placed, entries, got_in, is_got, is_poll}
 use Rattle.line_model.specs.ClientView.{ClientChannel, Fresh, Sought, RefusedBy, Unanswered, Open, Lost, channel}
-use Rattle.line_model.specs.Faults.{answers_heartbeat, is_counted, datagrams_taken, opens, or_newer, first_tunnel, tunnel_told}
+use Rattle.line_model.specs.Faults.{answers_heartbeat, is_counted, datagrams_taken, opens, or_newer, first_tunnel}
 
 abbrev pub NoneGot : List Placed → Type 0
 NoneGot added = AllByRecursion (λ (p : Placed). is_got p.what.what ≡ false) added

@@ -1,11 +1,14 @@
 -- What a commission of a line leaves: how its link went on, and what is told of the run. It is so over every link, and at want of memory and after a
 -- fault too; what is said of a record or of events holds where the link tells them.
-use Rattle.std.specs.Prelude.{◌≡◌, ℕ, List, map, reverse, None, IfSome}
+use Rattle.std.specs.Prelude.{◌≡◌, ◌⊎◌, ℕ, List, [], map, reverse, None, IfSome}
 use Rattle.std.specs.List.{AllByRecursion}
 use Rattle.knx_model.specs.declared.address.IndAddr.{IndAddr}
+use Rattle.line_model.specs.declared.fault.HubFault.{HubFault}
+use Rattle.line_model.specs.declared.fault.HubFault.TheVariants.{NoMemory}
 use Rattle.line_model.specs.declared.group.GroupTurn.{GroupTurn}
 use Rattle.line_model.specs.declared.log.LogEntry.{LogEntry}
 use Rattle.line_model.specs.declared.log.Report.{Report}
+use Rattle.line_model.specs.declared.outside.link_counts.LinkCounts.{LinkCounts}
 use Rattle.line_model.specs.Headline.{Keeps, IsGoodJob}
 use Rattle.line_model.specs.Lines.{Script}
 use Rattle.line_model.specs.LinkStory.{Story, record_in}
@@ -52,11 +55,24 @@ pub record TellsRun (workers : ℕ) (tasks : List Task) (devices : List IndAddr)
   pub told : report.fault ≡ None → ¬ TurnUnfinished turns (log_of report)
   pub closed : report.fault ≡ None → WhereTold (HasClosed (log_of report)) story
 
+-- ---- there was no memory before the first turn: nothing more is told than that
+
+abbrev pub IsNoMemory : HubFault → Type 0
+IsNoMemory (NoMemory want) = Unit {0}
+IsNoMemory _ = ⊥
+
+pub record WantsAtFirst (fault : HubFault) (report : Report) : Type 0 where
+  pub wants : IsNoMemory fault
+  pub log : report.log ≡ []
+  pub heard : report.heard ≡ []
+  pub missed : report.missed ≡ 0
+  pub dropped : report.dropped ≡ 0
+
 -- ---- a commission of these jobs and group telegrams by so many workers, over a link of which this is seen, before it and when it is handed back
 
-pub record Commissioned {L : Type 0} (story_of : L → Story) (place_of : L → ℕ) (script_of : L → Script) (faults_of : L → ℕ) (workers : ℕ) (hub_jobs : List HubJob) (turns : List GroupTurn) (before after : L) (report : Report) : Type 0 where
+pub record Commissioned {L : Type 0} (story_of : L → Story) (place_of : L → ℕ) (script_of : L → Script) (faults_of : L → LinkCounts) (workers : ℕ) (hub_jobs : List HubJob) (turns : List GroupTurn) (before after : L) (report : Report) : Type 0 where
   pub grows : GoesOn (story_of before) (story_of after)
   pub script : script_of after ≡ script_of before
-  -- that the link failed is told only where its count of faults rose
-  pub cause : IfSome report.fault (λ fault. FailsWhere fault (faults_of before) (faults_of after))
+  -- that the link failed, or had no memory, is told only where its count of that rose; or there was no memory before the first turn, and the link is as it was
+  pub cause : IfSome report.fault (λ fault. FailsWhere fault (faults_of before) (faults_of after) ⊎ (WantsAtFirst fault report × (after ≡ before)))
   pub tells : TellsRun workers (tasks_seen hub_jobs) (map (λ (job : HubJob). job.device) hub_jobs) turns (story_of after) (place_of after) report

@@ -1,10 +1,12 @@
 //! A link in memory, which tells nothing: a gateway that answers at once, with one device on the bus.
 
 ghost use Rattle.std.specs.Prelude.{◌≡◌, ◌≤◌};
+ghost use Rattle.line_model.specs.LinkStory.{Untold};
+ghost use Rattle.line_model.specs.Polled.{PollsSo};
 
 use device_sim::Device;
 use knx_model::{ApduOctets, Datagram, IndAddr, IpFrame, Ldata, LdataCode, NoMemory, Took};
-use line_model::{Link, LinkFault, Polled};
+use line_model::{Link, LinkCounts, LinkFault, Polled};
 use std::alloc::Global;
 
 /// The address of its tunnel, 1.1.255.
@@ -40,6 +42,7 @@ pub struct Gateway {
     jump: Option<Jump>,
     now: u64,
     at: u64,
+    faults: LinkCounts,
 }
 
 /// The gateway's side: what it does with what it is sent.
@@ -67,6 +70,7 @@ impl Gateway {
             jump: None,
             now: 0,
             at: 0,
+            faults: LinkCounts::none(),
         }
     }
 
@@ -81,6 +85,7 @@ impl Gateway {
     fn begin_poll(&mut self)
         ensures time { self.old.now ≤ self.new.now }
         ensures events { self.new.at ≡ self.old.at }
+        ensures faults { self.new.faults ≡ self.old.faults }
     {
         self.polls = self.polls.saturating_add(1);
         match self.jump {
@@ -89,6 +94,43 @@ impl Gateway {
             }
             _ => {}
         }
+    }
+
+    /// It is sent a datagram.
+    fn is_sent(&mut self, octets: &[u8]) -> Result<(), LinkFault>
+        ensures time { self.new.now ≡ self.old.now }
+        ensures events { self.old.at ≤ self.new.at }
+        ensures faults { self.new.faults ≡ self.old.faults }
+    {
+        self.at = self.at.saturating_add(1);
+        match knxnetip_frames::decode(octets) {
+            Ok(frame) => self.side.took(frame, self.now)?,
+            Err(_) => {}
+        }
+        Ok(())
+    }
+
+    /// It gives a datagram, or nothing until the wait is over.
+    fn gives(&mut self, into: &mut [u8; 512], wait_ms: u32) -> Result<Polled, LinkFault>
+        ensures polled { PollsSo result into.new wait_ms self.new.now Untold Untold }
+        ensures time { self.old.now ≤ self.new.now }
+        ensures events { self.old.at ≤ self.new.at }
+        ensures faults { self.new.faults ≡ self.old.faults }
+    {
+        self.at = self.at.saturating_add(1);
+        self.begin_poll();
+        self.side.hears(self.now)?;
+        self.side.puts()?;
+        if self.side.inbox.is_empty() {
+            self.now = self.now.saturating_add(u64::from(wait_ms));
+            return Ok(Polled::Quiet);
+        }
+        let datagram = self.side.inbox.remove(0);
+        let octets = datagram.as_slice();
+        for i in 0..octets.len() {
+            into[i] = octets[i];
+        }
+        Ok(Polled::Got(octets.len()))
     }
 }
 
@@ -261,7 +303,7 @@ fn request(number: u8, frame: &Ldata) -> Datagram {
 }
 
 impl Link for Gateway {
-    ghost use Rattle.std.specs.Prelude.{ℕ, []};
+    ghost use Rattle.std.specs.Prelude.{[]};
     ghost use Rattle.line_model.specs.LinkStory.{Story, Untold};
 
     ghost story = { λ _. Untold };
@@ -272,15 +314,11 @@ impl Link for Gateway {
 
     ghost place = { λ g. g.at };
 
-    ghost faults = { λ _. 0 };
+    ghost faults = { λ g. g.faults };
 
     fn send(&mut self, octets: &[u8]) -> Result<(), LinkFault> {
-        self.at = self.at.saturating_add(1);
-        match knxnetip_frames::decode(octets) {
-            Ok(frame) => self.side.took(frame, self.now)?,
-            Err(_) => {}
-        }
-        Ok(())
+        let sent = self.is_sent(octets);
+        self.faults.count(sent)
     }
 
     fn renew(&mut self) -> Result<(), LinkFault> {
@@ -290,20 +328,8 @@ impl Link for Gateway {
     }
 
     fn poll(&mut self, into: &mut [u8; 512], wait_ms: u32) -> Result<Polled, LinkFault> {
-        self.at = self.at.saturating_add(1);
-        self.begin_poll();
-        self.side.hears(self.now)?;
-        self.side.puts()?;
-        if self.side.inbox.is_empty() {
-            self.now = self.now.saturating_add(u64::from(wait_ms));
-            return Ok(Polled::Quiet);
-        }
-        let datagram = self.side.inbox.remove(0);
-        let octets = datagram.as_slice();
-        for i in 0..octets.len() {
-            into[i] = octets[i];
-        }
-        Ok(Polled::Got(octets.len()))
+        let polled = self.gives(into, wait_ms);
+        self.faults.count(polled)
     }
 
     fn now(&self) -> u64 {

@@ -1,6 +1,7 @@
 -- Where the place in flight is free, no request is unconfirmed.
 use Rattle.std.proofs.Common.{◌≡◌, ℕ, Bool, true, false, List, [], ◌∷◌, Option, Some, None, refl, sym, ap, subst, ◌∙◌}
 use Rattle.std.specs.Prelude.{if◌then◌else◌, not, is_some, ◌&&◌, ◌||◌, ◌==◌}
+use Rattle.knx_model.specs.declared.address.IndAddr.{IndAddr}
 use Rattle.knx_model.specs.declared.frames.cemi.Ldata.{Ldata}
 use Rattle.knx_model.specs.declared.frames.ip.IpFrame.{IpFrame}
 use Rattle.knx_model.specs.declared.frames.ip.IpFrame.TheVariants.{ConnectRequest, ConnectResponse, StateRequest, StateResponse, DisconnectRequest, DisconnectResponse, TunnellingRequest, TunnellingAck}
@@ -8,10 +9,11 @@ use Rattle.knx_model.specs.Connection.{has_passed}
 use Rattle.line_model.specs.Reading.{RequestFrame, request_in, ldata_in, is_con, is_connect_request}
 use Rattle.line_model.specs.Record.{Entry, Placed, entries, put_in, got_in, is_renewal, is_poll}
 use Rattle.line_model.specs.ChannelLost.{confirmed, confirms, last_frame, is_confirmation, is_alike, is_confirmation_of, is_new_request, delivers, expected, is_lost, answer_wait}
-use Rattle.line_model.specs.ClientView.{ClientChannel, Fresh, Sought, RefusedBy, Unanswered, Open, Lost, Puts, Takes, Loses, Nothing, as_counted, channel, after_entry, after_fresh, after_sought, sought_got, goes_on, deed, deed_in, deed_of, or_takes}
+use Rattle.line_model.specs.ClientView.{ClientChannel, Fresh, Sought, RefusedBy, Unanswered, Open, Lost, Puts, Takes, Loses, Nothing, own_address, is_stray, as_counted, channel, after_entry, after_fresh, after_sought, sought_got, goes_on, deed, deed_in, deed_of, or_takes}
 use Rattle.line_model.specs.Moments.{moments, error_of, where_is}
 use Rattle.line_model.specs.Renews.{RenewsRightly, RenewsSo, has_renewed, is_just_renewed, MayLeave}
 use Rattle.line_model.specs.Asks.{HasPlace}
+use Rattle.line_model.proofs.Strays.{con_stray}
 use Rattle.hub_work.specs.Fits.{in_flight, flies_after}
 use Rattle.hub_work.specs.Follows.{PlaceIsFree}
 
@@ -53,37 +55,40 @@ own_is (Some f) (Some con) e = by_code (is_con con.code) e
     by_code true e = refl
     by_code false e = absurd (cc)
 
-took : (c n : ℕ) (l : List Entry) (b : Bool) (last : Option Ldata) (o : Option RequestFrame) → (confirmed c l ≡ true → b ≡ false) → (if confirms c n last o then true else confirmed c l) ≡ true → flies_after (as_counted last (deed_of Takes (delivers c n o) o)) b ≡ false
-took c n l b last None lands e = lands e
-took c n l b last (Some r) lands e = by_delivery (delivers c n (Some r)) e
+took : (c n : ℕ) (l : List Entry) (b : Bool) (address : Option IndAddr) (last : Option Ldata) (o : Option RequestFrame) → (confirmed c l ≡ true → b ≡ false) → (if confirms c n last o then true else confirmed c l) ≡ true → flies_after (as_counted address last (deed_of Takes (delivers c n o) o)) b ≡ false
+took c n l b address last None lands e = lands e
+took c n l b address last (Some r) lands e = by_delivery (delivers c n (Some r)) e
   where
     flown : Bool → Bool
     flown t = if t then false else b
 
-    -- it counts: it is no confirmation, or its own
-    by_counting : (own con : Bool) → is_confirmation_of last (ldata_in r.cemi) ≡ own → is_confirmation (ldata_in r.cemi) ≡ con → (if own then true else confirmed c l) ≡ true → flies_after (if not con || own then Takes r.cemi else Nothing) b ≡ false
-    by_counting true true p q e = ap flown (same_confirmation (ldata_in r.cemi) ∙ q)
-    by_counting true false p q e = absurd (let z : false ≡ true = sym q ∙ own_is last (ldata_in r.cemi) p in cc)
-    by_counting false true p q e = lands e
-    by_counting false false p q e = ap flown (same_confirmation (ldata_in r.cemi) ∙ q) ∙ lands e
+    -- it counts: it is no indication to another device than the tunnel, and no confirmation or its own
+    by_counting : (stray own con : Bool) → is_stray address (ldata_in r.cemi) ≡ stray → is_confirmation_of last (ldata_in r.cemi) ≡ own → is_confirmation (ldata_in r.cemi) ≡ con → (if own then true else confirmed c l) ≡ true
+        → flies_after (if not stray && (not con || own) then Takes r.cemi else Nothing) b ≡ false
+    by_counting true true con s p q e = absurd (let z : false ≡ true = sym (con_stray address (ldata_in r.cemi) (own_is last (ldata_in r.cemi) p)) ∙ s in cc)
+    by_counting true false con s p q e = lands e
+    by_counting false true true s p q e = ap flown (same_confirmation (ldata_in r.cemi) ∙ q)
+    by_counting false true false s p q e = absurd (let z : false ≡ true = sym q ∙ own_is last (ldata_in r.cemi) p in cc)
+    by_counting false false true s p q e = lands e
+    by_counting false false false s p q e = ap flown (same_confirmation (ldata_in r.cemi) ∙ q) ∙ lands e
 
-    by_delivery : (d : Bool) → (if d && is_confirmation_of last (ldata_in r.cemi) then true else confirmed c l) ≡ true → flies_after (as_counted last (if d then Takes r.cemi else Nothing)) b ≡ false
-    by_delivery true e = by_counting (is_confirmation_of last (ldata_in r.cemi)) (is_confirmation (ldata_in r.cemi)) refl refl e
+    by_delivery : (d : Bool) → (if d && is_confirmation_of last (ldata_in r.cemi) then true else confirmed c l) ≡ true → flies_after (as_counted address last (if d then Takes r.cemi else Nothing)) b ≡ false
+    by_delivery true e = by_counting (is_stray address (ldata_in r.cemi)) (is_confirmation_of last (ldata_in r.cemi)) (is_confirmation (ldata_in r.cemi)) refl refl refl e
     by_delivery false e = lands e
 
 unput : (o : Option RequestFrame) → deed_of Puts false o ≡ Nothing
 unput None = refl
 unput (Some r) = refl
 
-in_open : (c : ℕ) (l : List Entry) (x : Entry) (b : Bool) → (confirmed c l ≡ true → b ≡ false) → confirmed c (x ∷ l) ≡ true → flies_after (as_counted (last_frame c l) (deed_in c l x)) b ≡ false
+in_open : (c : ℕ) (l : List Entry) (x : Entry) (b : Bool) → (confirmed c l ≡ true → b ≡ false) → confirmed c (x ∷ l) ≡ true → flies_after (as_counted (own_address l) (last_frame c l) (deed_in c l x)) b ≡ false
 in_open c l x b lands e = by_request (is_new_request c l x) e
   where
     by_request : (t : Bool) → (if t then false else (if confirms c (expected c l) (last_frame c l) (request_in (got_in x.what)) then true else confirmed c l)) ≡ true
-        → flies_after (as_counted (last_frame c l) (or_takes (deed_of Puts t (request_in (put_in x.what))) (deed_of Takes (delivers c (expected c l) (request_in (got_in x.what))) (request_in (got_in x.what))))) b ≡ false
+        → flies_after (as_counted (own_address l) (last_frame c l) (or_takes (deed_of Puts t (request_in (put_in x.what))) (deed_of Takes (delivers c (expected c l) (request_in (got_in x.what))) (request_in (got_in x.what))))) b ≡ false
     by_request true e = absurd (cc)
     by_request false e =
-        ap (λ d. flies_after (as_counted (last_frame c l) (or_takes d (deed_of Takes (delivers c (expected c l) (request_in (got_in x.what))) (request_in (got_in x.what))))) b) (unput (request_in (put_in x.what)))
-        ∙ took c (expected c l) l b (last_frame c l) (request_in (got_in x.what)) lands e
+        ap (λ d. flies_after (as_counted (own_address l) (last_frame c l) (or_takes d (deed_of Takes (delivers c (expected c l) (request_in (got_in x.what))) (request_in (got_in x.what))))) b) (unput (request_in (put_in x.what)))
+        ∙ took c (expected c l) l b (own_address l) (last_frame c l) (request_in (got_in x.what)) lands e
 
 -- ---- a channel is sought and open only at an endpoint that was taken
 
@@ -169,7 +174,7 @@ goes_lands x (RefusedBy status) b e = e
 goes_lands x Unanswered b e = e
 goes_lands x (Open c l) b e = by_loss (is_lost c l x)
   where
-    by_loss : (t : Bool) → Lands (if t then Lost c else Open c (x ∷ l)) (flies_after (if t then Loses else as_counted (last_frame c l) (deed_in c l x)) b)
+    by_loss : (t : Bool) → Lands (if t then Lost c else Open c (x ∷ l)) (flies_after (if t then Loses else as_counted (own_address l) (last_frame c l) (deed_in c l x)) b)
     by_loss true = refl
     by_loss false = λ q. in_open c l x b e q
 goes_lands x (Lost c) b e = e

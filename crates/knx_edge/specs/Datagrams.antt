@@ -90,7 +90,7 @@ is_wait_over TimedOut = true
 is_wait_over Interrupted = true
 is_wait_over _ = false
 
--- ---- which fault an error is: want of memory is told as itself, and isn't counted
+-- ---- which fault an error is: want of memory is told as itself, and isn't counted at a port
 
 abbrev pub link_fault_of : ErrorKind → LinkFault
 link_fault_of OutOfMemory = link_fault.NoMemory tt

@@ -5,6 +5,7 @@ ghost use Rattle.knx_model.specs.Outside.{Rose, one_more};
 ghost use Rattle.line_model.specs.Dialled.{TakesBack, Tells};
 ghost use Rattle.line_model.specs.LinkStory as link_story;
 ghost use Rattle.line_model.specs.LinkStory.{IsNewLink};
+ghost use Rattle.line_model.specs.Polled.{none_failed};
 ghost use Rattle.line_model.specs.PortStory as port_story;
 ghost use Rattle.line_model.specs.PortStory.{IsNewPort};
 ghost use Rattle.knx_edge.specs.Datagrams.{IsAt};
@@ -12,7 +13,7 @@ ghost use Rattle.knx_edge.specs.Datagrams.{IsAt};
 use crate::link::UdpLink;
 use crate::port::UdpPort;
 use crate::socket::address_of;
-use line_model::{DialFailed, Dialer};
+use line_model::{DialFailed, Dialer, LinkCounts};
 use std::alloc::Global;
 use std::io;
 use std::net::{Net, UdpSocket};
@@ -26,18 +27,20 @@ pub struct UdpDialer<'a, R> {
     alloc: Global,
     dials: u64,
     faults: u64,
+    wanting: u64,
 }
 
 impl<'a, R: Net + Clock + RandomSource> UdpDialer<'a, R> {
     /// A dialer of which no call was made yet.
     pub fn new(rt: &'a R, alloc: Global) -> Self
-        ensures { (result.dials ≡ 0) × (result.faults ≡ 0) }
+        ensures { (result.dials ≡ 0) × (result.faults ≡ 0) × (result.wanting ≡ 0) }
     {
         UdpDialer {
             rt,
             alloc,
             dials: 0,
             faults: 0,
+            wanting: 0,
         }
     }
 
@@ -47,6 +50,7 @@ impl<'a, R: Net + Clock + RandomSource> UdpDialer<'a, R> {
         ensures error { IfErr opened (λ _. IsErr result) }
         ensures failed { OnErr result (Rose self.old.faults self.new.faults) }
         ensures count { self.old.faults ≤ self.new.faults }
+        ensures wanting { self.new.wanting ≡ self.old.wanting }
         ensures dials { self.new.dials ≡ self.old.dials }
     {
         match opened {
@@ -61,6 +65,7 @@ impl<'a, R: Net + Clock + RandomSource> UdpDialer<'a, R> {
     /// Counts a fault where what comes back had one.
     fn take_back(&mut self, faults: u64)
         ensures count { TakesBack faults self.old.faults self.new.faults }
+        ensures wanting { self.new.wanting ≡ self.old.wanting }
         ensures dials { self.new.dials ≡ self.old.dials }
     {
         if faults != 0 {
@@ -74,16 +79,17 @@ impl<'a, R: Net + Clock + RandomSource + Sync> Dialer for UdpDialer<'a, R> {
 
     type P = UdpPort<'a, R, UdpSocket>;
 
-    ghost now = { λ d. record { faults = d.faults; dials = d.dials; given = None; link_back = link_story.Untold; port_back = port_story.Untold } };
+    ghost now = { λ d. record { faults = d.faults; wanting = d.wanting; dials = d.dials; given = None; link_back = link_story.Untold; port_back = port_story.Untold } };
 
     fn dial(&mut self, host: [u8; 4], port: u16) -> Result<UdpLink<'a, R, UdpSocket>, DialFailed>
         ensures fresh { OnOk result (IsNewLink link_story.Untold) }
         ensures tells { Tells host port None }
         ensures gateway { IfOk result (λ l. IsAt host port l.gateway) }
-        ensures sound { IfOk result (λ l. l.faults ≡ 0) }
+        ensures sound { IfOk result (λ l. l.faults ≡ none_failed) }
         ensures failed { OnErr result (Rose self.old.faults self.new.faults) }
         ensures still { OnOk result (self.new.faults ≡ self.old.faults) }
         ensures count { self.old.faults ≤ self.new.faults }
+        ensures wanting { self.new.wanting ≡ self.old.wanting }
         ensures dials { self.new.dials ≡ one_more self.old.dials }
     {
         self.dials = self.dials.saturating_add(1);
@@ -98,6 +104,7 @@ impl<'a, R: Net + Clock + RandomSource + Sync> Dialer for UdpDialer<'a, R> {
         ensures failed { OnErr result (Rose self.old.faults self.new.faults) }
         ensures still { OnOk result (self.new.faults ≡ self.old.faults) }
         ensures count { self.old.faults ≤ self.new.faults }
+        ensures wanting { self.new.wanting ≡ self.old.wanting }
         ensures dials { self.new.dials ≡ one_more self.old.dials }
     {
         self.dials = self.dials.saturating_add(1);
@@ -106,7 +113,11 @@ impl<'a, R: Net + Clock + RandomSource + Sync> Dialer for UdpDialer<'a, R> {
     }
 
     fn hang(&mut self, line: UdpLink<'a, R, UdpSocket>) {
-        self.take_back(line.faults());
+        let LinkCounts { failed, wanting } = line.faults();
+        self.take_back(failed);
+        if wanting != 0 {
+            self.wanting = self.wanting.saturating_add(1);
+        }
     }
 
     fn shut(&mut self, door: UdpPort<'a, R, UdpSocket>) {
@@ -145,7 +156,7 @@ mod tests {
         for _ in 0..2 {
             assert!(rt; line.send(&long).is_err());
         }
-        assert_eq!(rt; line.faults(), 2);
+        assert_eq!(rt; line.faults().failed, 2);
         dialer.hang(line);
         assert_eq!(rt; dialer.faults, 1);
         Ok(())

@@ -6,12 +6,12 @@ ghost use Rattle.std.specs.IoError.{error_kind};
 ghost use Rattle.std.specs.Prelude.{◌≡◌, ◌≤◌, Err, IfErr, IfOk, Ok, OnErr, OnOk};
 ghost use Rattle.knx_model.specs.Outside.{one_more};
 ghost use Rattle.line_model.specs.LinkStory.{Renews, RenewsOrNot, Sends, SendsOrNot, Untold};
-ghost use Rattle.line_model.specs.Polled.{FailsWhere, PollsSo};
-ghost use Rattle.knx_edge.specs.Datagrams.{Gives, IsUnused, LinkBrings, counted, entries_after, link_fault_of};
+ghost use Rattle.line_model.specs.Polled.{FailsWhere, NeverFall, PollsSo, after_call, none_failed};
+ghost use Rattle.knx_edge.specs.Datagrams.{Gives, IsUnused, LinkBrings, entries_after, link_fault_of};
 
 use crate::disk::memory_of;
 use crate::socket::{Datagrams, LONGEST, Senders, address_of, receive_of, send_whole};
-use line_model::{Link, LinkFault, Polled};
+use line_model::{Link, LinkCounts, LinkFault, Polled};
 use std::io;
 use std::net::{Net, SocketAddr};
 use std::time::{Clock, Instant};
@@ -27,7 +27,7 @@ pub struct UdpLink<'a, R, S> {
     time: u64,
     /// How many datagrams were sent, new endpoints taken and waits ended.
     done: u64,
-    faults: u64,
+    faults: LinkCounts,
 }
 
 impl<'a, R: Net + Clock, S: Datagrams> UdpLink<'a, R, S> {
@@ -35,7 +35,7 @@ impl<'a, R: Net + Clock, S: Datagrams> UdpLink<'a, R, S> {
     pub fn open(rt: &'a R, gateway: SocketAddr) -> io::Result<Self>
         ensures gateway { IfOk result (λ l. l.gateway ≡ gateway) }
         ensures unused { IfOk result (λ l. IsUnused (S.sent l.socket)) }
-        ensures faults { IfOk result (λ l. l.faults ≡ 0) }
+        ensures faults { IfOk result (λ l. l.faults ≡ none_failed) }
     {
         Ok(UdpLink {
             rt,
@@ -44,12 +44,12 @@ impl<'a, R: Net + Clock, S: Datagrams> UdpLink<'a, R, S> {
             started: Instant::now(rt)?,
             time: 0,
             done: 0,
-            faults: 0,
+            faults: LinkCounts::none(),
         })
     }
 
-    /// How many calls failed.
-    pub fn faults(&self) -> u64
+    /// How many calls failed, and how many found no memory.
+    pub fn faults(&self) -> LinkCounts
         ensures { result ≡ self.now.faults }
     {
         self.faults
@@ -102,12 +102,12 @@ impl<'a, R: Net + Clock, S: Datagrams> UdpLink<'a, R, S> {
         Ok(())
     }
 
-    /// The answer of a call: one that was done is counted, and so is an error but want of memory.
+    /// The answer of a call: one that was done is counted, and so is an error.
     fn answer<T>(&mut self, done: io::Result<T>) -> Result<T, LinkFault>
         ensures ok { IfOk done (λ x. (result ≡ Ok x) × (self.new ≡ record self.old { done = one_more self.old.done })) }
-        ensures error { IfErr done (λ error. (result ≡ Err (link_fault_of (error_kind error))) × (self.new ≡ record self.old { faults = counted (error_kind error) self.old.faults })) }
+        ensures error { IfErr done (λ error. (result ≡ Err (link_fault_of (error_kind error))) × (self.new ≡ record self.old { faults = after_call result self.old.faults })) }
         ensures cause { FailsWhere result self.old.faults self.new.faults }
-        ensures count { self.old.faults ≤ self.new.faults }
+        ensures count { NeverFall self.old.faults self.new.faults }
         ensures events { self.old.done ≤ self.new.done }
         ensures entry { self.new.done ≡ entries_after result self.old.done }
     {
@@ -119,10 +119,9 @@ impl<'a, R: Net + Clock, S: Datagrams> UdpLink<'a, R, S> {
             Err(error) => error,
         };
         if let Some(want) = memory_of(&error) {
-            return Err(LinkFault::NoMemory(want));
+            return self.faults.count(Err(LinkFault::NoMemory(want)));
         }
-        self.faults = self.faults.saturating_add(1);
-        Err(LinkFault::Failed)
+        self.faults.count(Err(LinkFault::Failed))
     }
 }
 
@@ -147,7 +146,7 @@ impl<R: Net + Clock, S: Datagrams> Link for UdpLink<'_, R, S> {
         ensures still { OnOk result (self.new.faults ≡ self.old.faults) }
         ensures gateway { self.new.gateway ≡ self.old.gateway }
         ensures cause { FailsWhere result self.old.faults self.new.faults }
-        ensures count { self.old.faults ≤ self.new.faults }
+        ensures count { NeverFall self.old.faults self.new.faults }
         ensures time { self.new.time ≡ self.old.time }
         ensures events { self.old.done ≤ self.new.done }
         ensures entry { self.new.done ≡ entries_after result self.old.done }
@@ -164,7 +163,7 @@ impl<R: Net + Clock, S: Datagrams> Link for UdpLink<'_, R, S> {
         ensures gateway { self.new.gateway ≡ self.old.gateway }
         ensures socket { OnErr result (self.new.socket ≡ self.old.socket) }
         ensures cause { FailsWhere result self.old.faults self.new.faults }
-        ensures count { self.old.faults ≤ self.new.faults }
+        ensures count { NeverFall self.old.faults self.new.faults }
         ensures time { self.new.time ≡ self.old.time }
         ensures events { self.old.done ≤ self.new.done }
         ensures entry { self.new.done ≡ entries_after result self.old.done }
@@ -179,7 +178,7 @@ impl<R: Net + Clock, S: Datagrams> Link for UdpLink<'_, R, S> {
         ensures still { OnOk result (self.new.faults ≡ self.old.faults) }
         ensures gateway { self.new.gateway ≡ self.old.gateway }
         ensures cause { FailsWhere result self.old.faults self.new.faults }
-        ensures count { self.old.faults ≤ self.new.faults }
+        ensures count { NeverFall self.old.faults self.new.faults }
         ensures time { self.old.time ≤ self.new.time }
         ensures failed { OnErr result (self.new.time ≡ self.old.time) }
         ensures events { self.old.done ≤ self.new.done }
@@ -262,7 +261,7 @@ mod tests {
         assert!(rt; !is_quiet(&mut link, 0));
         assert!(rt; link.renew().is_ok());
         assert!(rt; link.socket.local_addr()?.ip() == IpAddr::V4(Ipv4Addr::UNSPECIFIED));
-        assert_eq!(rt; link.faults(), 1);
+        assert_eq!(rt; link.faults().failed, 1);
         Ok(())
     }
 }

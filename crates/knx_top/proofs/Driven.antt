@@ -1,5 +1,5 @@
 -- A run that the workers of its words drive over the simulated line: what is promised of it, in the words of its commission.
-use Rattle.std.proofs.Common.{◌≡◌, ℕ, inl, inr, List, [], ◌∷◌, ◌++◌, length, map, Option, Some, None, refl, sym, ap, ◌∙◌, subst, arith}
+use Rattle.std.proofs.Common.{◌≡◌, ◌⊎◌, ℕ, inl, inr, List, [], ◌∷◌, ◌++◌, length, map, Option, Some, None, refl, sym, ap, ◌∙◌, subst, arith}
 use Rattle.std.specs.Prelude.{IfSome}
 use Rattle.std.specs.List.{AllByRecursion}
 use Rattle.std.proofs.lemmas.List.{length-map}
@@ -9,7 +9,7 @@ use Rattle.bus_sim.specs.declared.clients.Clients.TheVariants.{One, Any}
 use Rattle.bus_sim.specs.Begun.{mode_of}
 use Rattle.bus_sim.specs.Ended.{FailsAtEnd, IsAtEnd}
 use Rattle.bus_sim.specs.RunNow.{RunNow, mode, script, start, story, story_of}
-use Rattle.hub_core.specs.Commissioned.{TellsRun}
+use Rattle.hub_core.specs.Commissioned.{TellsRun, WantsAtFirst}
 use Rattle.hub_core.specs.Promises.{IsRightOver, FaultRightIn, DropsIn, HastensIn, LeavesOver}
 use Rattle.hub_core.specs.Seen.{AreJobs, tasks_seen}
 use Rattle.hub_core.specs.Thorough.{IsThoroughOver}
@@ -22,9 +22,10 @@ use Rattle.hub_work.specs.Downloaders.{Task, task_of_hub_job}
 use Rattle.knx_model.specs.declared.address.IndAddr.{IndAddr}
 use Rattle.knx_model.specs.Outside.{Rose}
 use Rattle.line_model.specs.declared.fault.HubFault.{HubFault}
-use Rattle.line_model.specs.declared.fault.HubFault.TheVariants.{LinkFailed}
+use Rattle.line_model.specs.declared.fault.HubFault.TheVariants.{NoMemory, LinkFailed, GatewayRefused, Flooded, WrongLine}
 use Rattle.line_model.specs.declared.log.LogEntry.{LogEntry}
 use Rattle.line_model.specs.declared.log.Report.{Report}
+use Rattle.line_model.specs.declared.outside.link_counts.LinkCounts.{LinkCounts}
 use Rattle.line_model.specs.Follows.{Follows}
 use Rattle.line_model.specs.Fresh.{IsFresh}
 use Rattle.line_model.specs.Headline.{IsDisciplined, IsGoodJob, IsRight, Keeps}
@@ -35,6 +36,7 @@ use Rattle.line_model.specs.Lines.{Script, script_of}
 use Rattle.line_model.specs.LinkStory.{Full, record_in}
 use Rattle.line_model.specs.Haste.{LosesNoTimes}
 use Rattle.line_model.specs.Log.{Job, TurnUnfinished}
+use Rattle.line_model.specs.Polled.{none_failed}
 use Rattle.line_model.specs.Record.{placed}
 use Rattle.line_model.specs.StartOf.{BusOf}
 use Rattle.line_model.specs.Tunnel.{Commissions}
@@ -43,7 +45,7 @@ use Rattle.tunnel_link.specs.Goes.{GoesOn}
 use Rattle.tunnel_link.specs.Rights.{FailsWhere, WhereTold}
 use Rattle.knx_top.specs.Begun.{IsOrder}
 use Rattle.call_parts.specs.Jobs.{seen_job}
-use Rattle.knx_top.specs.Ran.{FailsAtLast, HasThreeTries, IsRunOf, KeepsPromises, Ran, log_in, Commission}
+use Rattle.knx_top.specs.Ran.{HasCauseOnLine, HasThreeTries, IsRunOf, KeepsPromises, Ran, log_in, Commission}
 use Rattle.knx_top.specs.declared.commands.sim.judge.Order.{Order}
 use Rattle.knx_top.proofs.Meanings.{devices_mean, done_means}
 use Rattle.knx_top.proofs.Telegrams.{telegrams_by_project}
@@ -87,27 +89,36 @@ same_start before after one goes =
     one_start : (one other : World) (events more : List Event) → Full one events ≡ Full other more → one ≡ other
     one_start one other events more e = cc
 
--- ---- the link failed only at the end of the run
+-- ---- the link failed only at the end of the run, and had no memory only where its count of that rose, or nothing was done
 
-fails_last : (fault : HubFault) (line : BusNow) → line.run.begun.clients ≡ One → FailsAtEnd line.faults line.run → FailsWhere fault 0 line.faults → FailsAtLast fault line
-fails_last LinkFailed line one (inl none) rose = absurd (none_rose line.faults none rose)
+abbrev CausedOn : Report → BusNow → BusNow → HubFault → Type 0
+CausedOn report begun line fault = FailsWhere fault none_failed line.faults ⊎ (WantsAtFirst fault report × (line ≡ begun))
+
+fails_last : (fault : HubFault) (report : Report) (begun line : BusNow) → begun.run.events ≡ [] → line.run.begun.clients ≡ One → FailsAtEnd line.faults.failed line.run → CausedOn report begun line fault → HasCauseOnLine report line fault
+fails_last LinkFailed report begun line new one ends (inr first) = absurd first.0.wants
+fails_last LinkFailed report begun line new one (inl none) (inl rose) = absurd (none_rose line.faults.failed none rose)
   where
     none_rose : (n : ℕ) → n ≡ 0 → Rose 0 n → ⊥
     none_rose n none (inl more) = omega (arith, none, more)
     none_rose n none (inr greatest) = omega (arith, none, greatest)
-fails_last LinkFailed line one (inr (inl end)) rose = (end, rose)
-fails_last LinkFailed line one (inr (inr serves)) rose = absurd (not_both (sym one ∙ serves))
+fails_last LinkFailed report begun line new one (inr (inl end)) (inl rose) = (end, rose)
+fails_last LinkFailed report begun line new one (inr (inr serves)) (inl rose) = absurd (not_both (sym one ∙ serves))
   where
     not_both : One ≡ Any → ⊥
     not_both e = cc
-fails_last fault line one ends rose = tt
+fails_last (NoMemory want) report begun line new one ends (inl rose) = inl rose
+fails_last (NoMemory want) report begun line new one ends (inr first) = inr (first.0, ap (λ (b : BusNow). b.run.events) first.1 ∙ new)
+fails_last (GatewayRefused tries) report begun line new one ends cause = tt
+fails_last Flooded report begun line new one ends cause = tt
+fails_last (WrongLine device tunnel) report begun line new one ends cause = tt
 
-pub faults_last : (told : Option HubFault) (line : BusNow) → line.run.begun.clients ≡ One → FailsAtEnd line.faults line.run → IfSome told (λ fault. FailsWhere fault 0 line.faults) → IfSome told (λ fault. FailsAtLast fault line)
-faults_last None line one ends cause = tt
-faults_last (Some fault) line one ends cause = fails_last fault line one ends cause
+pub faults_last : (told : Option HubFault) (report : Report) (before : LinkCounts) (begun line : BusNow) → before ≡ none_failed → begun.run.events ≡ [] → line.run.begun.clients ≡ One → FailsAtEnd line.faults.failed line.run
+    → IfSome told (λ fault. FailsWhere fault before line.faults ⊎ (WantsAtFirst fault report × (line ≡ begun))) → IfSome told (HasCauseOnLine report line)
+faults_last None report before begun line none new one ends cause = tt
+faults_last (Some fault) report before begun line none new one ends cause = fails_last fault report begun line new one ends (subst (λ (n : LinkCounts). FailsWhere fault n line.faults ⊎ (WantsAtFirst fault report × (line ≡ begun))) none cause)
 
-failed_at_end : (told : Option HubFault) (line : BusNow) → IfSome told (λ fault. FailsAtLast fault line) → told ≡ Some LinkFailed → IsAtEnd line.run
-failed_at_end told line cause failed = (subst (λ (o : Option HubFault). IfSome o (λ fault. FailsAtLast fault line)) failed cause).0
+failed_at_end : (told : Option HubFault) (report : Report) (line : BusNow) → IfSome told (HasCauseOnLine report line) → told ≡ Some LinkFailed → IsAtEnd line.run
+failed_at_end told report line cause failed = (subst (λ (o : Option HubFault). IfSome o (HasCauseOnLine report line)) failed cause).0
 
 -- ---- the premises, and what is promised
 
@@ -135,7 +146,7 @@ keeps_promises c order r log is run right =
 pub driven : (c : Commission) (order : Order) (workers : ℕ) (turns : List GroupTurn) (line : BusNow) (place : ℕ) (report : Report) → IsOrder c order → workers ≡ c.workers → turns ≡ c.turns → order.line.run.begun.clients ≡ One → GoesOn (story order.line.run) (story line.run) → script line.run ≡ script order.line.run
     → IsFresh (start line.run) → IsLegal (mode line.run) (start line.run) line.run.events → Follows (script line.run) (mode line.run) (start line.run) line.run.events
     → AllByRecursion IsGoodJob (map seen_job order.plans) → TellsRun workers (tasks_seen order.plans) (map (λ (job : HubJob). job.device) order.plans) turns (story line.run) place report
-    → HasThreeTries report.fault → IfSome report.fault (λ fault. FailsAtLast fault line) → Ran c line.run report order.jobs
+    → HasThreeTries report.fault → IfSome report.fault (HasCauseOnLine report line) → Ran c line.run report order.jobs
 driven c order workers turns line place report is by sends one goes says fresh legal follows good tells tries last =
     let jobs : List Job = map seen_job order.plans in
     let are : AreJobs order.plans jobs = jobs_seen order.plans in
@@ -162,7 +173,7 @@ driven c order workers turns line place report is by sends one goes says fresh l
         leaves = subst (λ (ts : List GroupTurn). LeavesRightly jobs ts (log_in report) (placed (start line.run) line.run.events)) sends left;
         fault = subst (λ s. FaultRightIn jobs (log_in report) report.fault (record_in s)) whole (tells.fault jobs are);
         tries = tries;
-        last = failed_at_end report.fault line last;
+        last = failed_at_end report.fault report line last;
         ended = λ none. tells.over none jobs of;
         sent = λ none. subst (λ (ts : List GroupTurn). ¬ TurnUnfinished ts (log_in report)) sends (tells.told none);
         in_order = tells.in_order jobs of;

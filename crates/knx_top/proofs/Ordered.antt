@@ -1,4 +1,5 @@
 -- The last tests of `sim`, and what a run is begun with.
+use Rattle.line_model.specs.Polled.{none_failed}
 use Rattle.std.proofs.Common.{◌≡◌, ◌≢◌, true, false, List, Err, refl, ap, ◌∙◌, subst, sym}
 use Rattle.std.specs.List.{list_all}
 use Rattle.bus_sim.specs.Loaded.{BusNow}
@@ -23,7 +24,7 @@ unknown_ends o new old lines named line begins are all =
     rw (begins.known, these) refl
 
 pub ordered : (o : SimOptions) (new old : Installation) (lines : List ScriptLine) (named : List JobWord) (line : BusNow) (order : Order) → BeginsLine new old lines line.run → named ≡ o.jobs → list_all (is_known new) named ≡ true
-    → line.faults ≡ 0 → order.line ≡ line → IsPrepared new old lines named order → OrderFor (with_lines o new old lines) order
+    → line.faults ≡ none_failed → order.line ≡ line → IsPrepared new old lines named order → OrderFor (with_lines o new old lines) order
 ordered o new old lines named line order begins are all sound is prepared =
     let these : list_all (is_known new) o.jobs ≡ true = subst (λ (jobs : List JobWord). list_all (is_known new) jobs ≡ true) are all in
     rw (begins.known, these) (record {

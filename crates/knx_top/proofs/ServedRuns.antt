@@ -12,6 +12,8 @@ use Rattle.discovery.specs.declared.about.About.{About}
 use Rattle.discovery_ends.specs.Answering.{AllAnswered, HasNoRequest, answerer_story, faults_with, shown_story}
 use Rattle.discovery_ends.specs.Naming.{named_story}
 use Rattle.knx_model.specs.Outside.{one_more}
+use Rattle.line_model.specs.declared.outside.link_counts.LinkCounts.{LinkCounts}
+use Rattle.line_model.specs.Polled.{none_failed}
 use Rattle.line_model.specs.declared.outside.port.PortFault.{PortFault}
 use Rattle.line_model.specs.declared.outside.port.PortFault.TheVariants as fault
 use Rattle.line_model.specs.Dialled.{Address, DialerNow, TakesBack, Tells}
@@ -61,12 +63,16 @@ sound_unless P (Some why) (Ok as_served) h = tt
 sound_unless P None (Err why) h = tt
 sound_unless P (Some other) (Err why) h = tt
 
-failed_so : (why : PortFault) (faults faults' : ℕ) (begun line : BusNow) → faults ≡ 0 → (why ≡ fault.Failed → 0 < faults') → line.faults ≡ begun.faults → FailsAt why faults faults' begun.faults line.faults line.run
+still_failed : (result : Result Served PortFault) (line begun : BusNow) → OnOk result (line.faults ≡ begun.faults) → OnOk result (line.faults.failed ≡ begun.faults.failed)
+still_failed (Ok as_served) line begun still = ap (λ (n : LinkCounts). n.failed) still
+still_failed (Err why) line begun still = tt
+
+failed_so : (why : PortFault) (faults faults' : ℕ) (begun line : BusNow) → faults ≡ 0 → (why ≡ fault.Failed → 0 < faults') → line.faults.failed ≡ begun.faults.failed → FailsAt why faults faults' begun.faults.failed line.faults.failed line.run
 failed_so (fault.NoMemory want) faults faults' begun line unfailed broke still = still
 failed_so fault.Failed faults faults' begun line unfailed broke still = inl (inl (rw unfailed (broke refl)), still)
 
-cause_unless : (failed : Option PortFault) (result : Result Served PortFault) (faults faults' : ℕ) (begun line : BusNow) → faults ≡ 0 → (failed ≡ Some fault.Failed → 0 < faults') → OnOk result (line.faults ≡ begun.faults)
-    → IfErr result (λ why. FailsAt why faults faults' begun.faults line.faults line.run) → IfErr (unless_failed failed result) (λ why. FailsAt why faults faults' begun.faults line.faults line.run)
+cause_unless : (failed : Option PortFault) (result : Result Served PortFault) (faults faults' : ℕ) (begun line : BusNow) → faults ≡ 0 → (failed ≡ Some fault.Failed → 0 < faults') → OnOk result (line.faults.failed ≡ begun.faults.failed)
+    → IfErr result (λ why. FailsAt why faults faults' begun.faults.failed line.faults.failed line.run) → IfErr (unless_failed failed result) (λ why. FailsAt why faults faults' begun.faults.failed line.faults.failed line.run)
 cause_unless None (Ok as_served) faults faults' begun line unfailed broke still cause = tt
 cause_unless (Some why) (Ok as_served) faults faults' begun line unfailed broke still cause = failed_so why faults faults' begun line unfailed (λ e. broke (ap Some e)) still
 cause_unless None (Err why) faults faults' begun line unfailed broke still cause = cause
@@ -90,12 +96,12 @@ serves_to turns (Ok served.OpenTurns) began r new_port port so broken = (refl, s
 serves_to turns (Err fault.Failed) began r new_port port so broken = broken
 serves_to turns (Err (fault.NoMemory want)) began r new_port port so broken = inl broken
 
-has_cause : (turns : ℕ) (result : Result Served PortFault) (port port' began : ℕ) (line : BusNow) → port ≡ 0 → began ≡ 0 → IfErr result (λ why. FailsAt why port port' began line.faults line.run) → OnOk result (line.faults ≡ began)
+has_cause : (turns : ℕ) (result : Result Served PortFault) (port port' began : ℕ) (line : BusNow) → port ≡ 0 → began ≡ 0 → IfErr result (λ why. FailsAt why port port' began line.faults.failed line.run) → OnOk result (line.faults.failed ≡ began)
     → HasCause (end_of_serving turns result) port' line
 has_cause turns (Ok served.Ended) port port' began line unfailed sound cause still = still ∙ sound
 has_cause turns (Ok served.OpenTurns) port port' began line unfailed sound cause still = still ∙ sound
 has_cause turns (Err fault.Failed) port port' began line unfailed sound cause still =
-    subst (λ (n : ℕ). FailsAt fault.Failed n port' 0 line.faults line.run) unfailed (subst (λ (n : ℕ). FailsAt fault.Failed port port' n line.faults line.run) sound cause)
+    subst (λ (n : ℕ). FailsAt fault.Failed n port' 0 line.faults.failed line.run) unfailed (subst (λ (n : ℕ). FailsAt fault.Failed port port' n line.faults.failed line.run) sound cause)
 has_cause turns (Err (fault.NoMemory want)) port port' began line unfailed sound cause still = cause ∙ sound
 
 -- ---- the line is one where clients come to a port, or nothing happened on it
@@ -144,23 +150,25 @@ is_served s began r begins same says fresh legal follows at = record {
 
 module _ (s : Service) (turns : ℕ) (result : Result Served PortFault) (begun line : BusNow) (own own' : List ℕ) (about about' : About) (failed : Option PortFault) (new_port port port_back : PortStory) where
   pub serving : (faults faults' refused since after : ℕ) (end : ServiceEnd) → BeginsLine s.before s.before s.script begun.run → s.turns ≡ turns → own ≡ own_endpoint s.at → about ≡ about_gateway (tunnel_address s.before)
-      → IsNewPort new_port → faults ≡ 0 → begun.faults ≡ 0
+      → IsNewPort new_port → faults ≡ 0 → begun.faults ≡ none_failed
       → IfOk result (λ as_served. ServedSo as_served turns begun.run line.run (answerer_story own about None new_port) (answerer_story own' about' failed port))
       → OnErr result (BreaksOff turns begun.run line.run (answerer_story own about None new_port) (answerer_story own' about' failed port))
-      → IfErr result (λ why. FailsAt why (faults_with faults 0) (faults_with faults' refused) begun.faults line.faults line.run) → OnOk result (line.faults ≡ begun.faults)
+      → IfErr result (λ why. FailsAt why (faults_with faults 0) (faults_with faults' refused) begun.faults.failed line.faults.failed line.run) → OnOk result (line.faults ≡ begun.faults)
       → start line.run ≡ start begun.run → script line.run ≡ script begun.run → IsFresh (start line.run) → IsLegal (mode line.run) (start line.run) line.run.events → Follows (script line.run) (mode line.run) (start line.run) line.run.events
       → AllAnswered about' failed (named_story own' port) → (failed ≡ Some fault.Failed → 0 < faults') → (0 < refused → 0 < faults') → port_back ≡ port → TakesBack faults' since after
       → end ≡ end_of_serving turns (unless_failed failed result) → Serving s line port_back since after end
-  serving faults faults' refused since after end begins most named tells new unfailed sound so broken cause still same says fresh legal follows answered broke refuses told taken ended =
+  serving faults faults' refused since after end begins most named tells new unfailed none_yet so broken cause stands same says fresh legal follows answered broke refuses told taken ended =
       let below : PortStory = shown_story about failed (named_story own port) in
+      let sound : begun.faults.failed ≡ 0 = ap (λ (n : LinkCounts). n.failed) none_yet in
+      let still : OnOk result (line.faults.failed ≡ begun.faults.failed) = still_failed result line begun stands in
       let added : (items : List PortItem) → AddsAll items (answerer_story own about None new_port) (answerer_story own' about' failed port) → AddsAll items new_port below = λ items h. added_below own own' about about' failed items new_port port new h in
       let now : Result Served PortFault = unless_failed failed result in
       let so_far : IfOk result (λ as_served. ServedSo as_served turns begun.run line.run new_port below) = so_below turns begun.run line.run _ _ new_port below added result so in
       let served_so : IfOk now (λ as_served. ServedSo as_served turns begun.run line.run new_port below) = served_unless turns begun.run line.run new_port below failed result so_far in
       let broken_so : OnErr now (BreaksOff turns begun.run line.run new_port below) =
       broken_unless turns begun.run line.run new_port below failed result so_far (breaks_below turns begun.run line.run _ _ new_port below added result broken) in
-      let caused_so : IfErr now (λ why. FailsAt why faults faults' begun.faults line.faults line.run) =
-      cause_unless failed result faults faults' begun line unfailed broke still (if_cause_below result faults faults' refused begun.faults line.faults line.run unfailed refuses cause) in
+      let caused_so : IfErr now (λ why. FailsAt why faults faults' begun.faults.failed line.faults.failed line.run) =
+      cause_unless failed result faults faults' begun line unfailed broke still (if_cause_below result faults faults' refused begun.faults.failed line.faults.failed line.run unfailed refuses cause) in
       let none : HasNoRequest below = by_added turns begun.run line.run _ _ (HasNoRequest below) (λ items h. none_below own own' about about' failed items new_port port new h answered) result so broken in
       record {
         run = is_served s begun.run line.run begins same says fresh legal follows (is_at_port turns now begun.run line.run new_port below begins.nothing served_so broken_so);
@@ -174,7 +182,7 @@ module _ (s : Service) (turns : ℕ) (result : Result Served PortFault) (begun l
         serves = rw (told, ended, most, ← named, ← tells) (serves_to turns now begun.run line.run new_port below served_so broken_so);
         faults = faults';
         taken = taken;
-        cause = rw ended (has_cause turns now faults faults' begun.faults line unfailed sound caused_so (sound_unless _ failed result still));
+        cause = rw ended (has_cause turns now faults faults' begun.faults.failed line unfailed sound caused_so (sound_unless _ failed result still));
       }
 
 -- ---- the port was bound

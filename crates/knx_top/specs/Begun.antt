@@ -13,6 +13,7 @@ use Rattle.knx_model.specs.ScriptText.{first_stranger}
 use Rattle.hub_work.specs.Requests.{IsTurnInRange}
 use Rattle.line_model.specs.Lines.{script_of}
 use Rattle.line_model.specs.Headline.{IsGoodJob}
+use Rattle.line_model.specs.Polled.{none_failed}
 use Rattle.line_model.specs.StartOf.{BusOf, is_on_bus}
 use Rattle.call_parts.specs.Jobs.{AreJobs, ArePlanned, seen_job}
 use Rattle.call_parts.specs.OnLine.{AreCompiled, on_bus}
@@ -48,7 +49,7 @@ pub record IsPrepared (new old : Installation) (lines : List ScriptLine) (named 
 pub record IsOrder (c : Commission) (order : Order) : Type 0 where
   pub line : BeginsLine c.project c.before c.script order.line.run
   -- no call of the line has failed
-  pub sound : order.line.faults ≡ 0
+  pub sound : order.line.faults ≡ none_failed
   pub prepared : IsPrepared c.project c.before c.script c.options.jobs order
   -- the workers of its words drive it, and the group telegrams of its script are sent
   pub workers : c.workers ≡ workers_of c.options

@@ -1,7 +1,8 @@
--- A run over a dialled link, by what the link told last when it was handed back. The dialer's count of faults takes in those of the link.
-use Rattle.std.specs.Prelude.{ℕ, IfSome, List, None, ◌≡◌}
+-- A run over a dialled link, by what the link told last when it was handed back. The dialer's counts take in those of the link.
+use Rattle.std.specs.Prelude.{ℕ, IfSome, List, None, ◌≡◌, ◌⊎◌}
 use Rattle.line_model.specs.Dialled.{Address, DialerNow, TakesBack, Tells}
 use Rattle.line_model.specs.Log.{AllOver, IsLog, Job, OneDownloaderPerDevice, TakenInOrder}
+use Rattle.hub_core.specs.Commissioned.{WantsAtFirst}
 use Rattle.hub_core.specs.Promises.{DropsIn, FaultRightIn, HastensIn, IsRightOver, LeavesOver}
 use Rattle.tunnel_link.specs.Rights.{FailsWhere, WhereTold}
 use Rattle.line_model.specs.LinkStory.{Full, IsNewLink, Recorded, Story, record_in, Untold}
@@ -16,6 +17,8 @@ use Rattle.line_model.specs.Headline.{Keeps}
 use Rattle.line_model.specs.declared.log.LogEntry.{LogEntry}
 use Rattle.line_model.specs.OldStoppedOrNew.{MeansWhereDone, OldStoppedOrNew, RunsMeaning}
 use Rattle.line_model.specs.declared.log.Report.{Report}
+use Rattle.line_model.specs.declared.outside.link_counts.LinkCounts.{LinkCounts}
+use Rattle.line_model.specs.Polled.{none_failed}
 use Rattle.knx_model.specs.Outside.{Rose, one_more}
 use Rattle.knx_top.specs.Ran.{log_in}
 
@@ -39,7 +42,7 @@ pub record IsToldOver (workers : ℕ) (turns : List GroupTurn) (jobs : List Job)
   pub hastens : HastensIn jobs turns (log_in report) story
   pub thorough : IsThoroughOver jobs story (log_in report)
   pub leaves : LeavesOver jobs turns story (log_in report)
-  -- a fault has its cause in the record, want of memory and a failed link aside; without one there is none in the end, every job has its end, and the closing is over
+  -- a fault has its cause in the record, want of memory and a failed link aside, whose cause the link tells; without one there is none in the end, every job has its end, and the closing is over
   pub fault : FaultRightIn jobs (log_in report) report.fault (record_in story)
   pub ended : report.fault ≡ None → AllOver jobs (log_in report)
   pub closed : report.fault ≡ None → WhereTold (HasClosed (log_in report)) story
@@ -54,12 +57,13 @@ pub record IsToldOver (workers : ℕ) (turns : List GroupTurn) (jobs : List Job)
   pub heard : HeardIn report.fault report.missed report.heard (record_in story)
   pub dropped : DropsIn report.dropped (record_in story)
 
--- That the link failed is told only where the dialled link's count of failed calls rose, which is 0 where it is dialled. The dialer's count was `since` then,
--- and takes that of the link in where it is `after`.
-pub record HasItsCause (report : Report) (since after : ℕ) : Type 0 where
-  pub faults : ℕ
-  pub taken : TakesBack faults since after
-  pub cause : IfSome report.fault (λ fault. FailsWhere fault 0 faults)
+-- That the link failed, or had no memory, is told only where the dialled link's count of that rose, which is 0 where it is dialled; or there was no memory before
+-- the first turn, and nothing was done on it. The dialer's counts were these then, and take those of the link in.
+pub record HasItsCause (report : Report) (failed wanting : ℕ) (after : DialerNow) : Type 0 where
+  pub faults : LinkCounts
+  pub taken : TakesBack faults.failed failed after.faults
+  pub lacked : TakesBack faults.wanting wanting after.wanting
+  pub cause : IfSome report.fault (λ fault. FailsWhere fault none_failed faults ⊎ (WantsAtFirst fault report × IsNewLink after.link_back × (faults ≡ none_failed)))
 
 -- ---- nothing was opened
 

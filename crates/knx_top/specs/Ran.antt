@@ -2,7 +2,7 @@
 -- at every moment, whatever is lost, repeated or cut, each device has its starting content, or is stopped, or runs what the new project says; each
 -- group telegram acts on exactly the objects that the running configuration links; `done` is told only where the new project's runs; no device has
 -- two downloaders at once, and no tunnelling request acts twice.
-use Rattle.std.specs.Prelude.{ℕ, IfSome, List, None, Option, Some, ◌≡◌, ◌≤◌, length, min, reverse, ◌^◌, ◌-◌}
+use Rattle.std.specs.Prelude.{ℕ, IfSome, List, [], None, Option, Some, ◌≡◌, ◌⊎◌, ◌≤◌, length, min, reverse, ◌^◌, ◌-◌}
 use Rattle.line_model.specs.ActedOnce.{ActedOnce}
 use Rattle.line_model.specs.Telegrams.{ActsByProject, TelegramsActRight}
 use Rattle.line_model.specs.Log.{AllOver, Job, TakenInOrder, TurnUnfinished}
@@ -15,6 +15,7 @@ use Rattle.line_model.specs.Faults.{FaultRight}
 use Rattle.line_model.specs.Follows.{Follows}
 use Rattle.line_model.specs.declared.group.GroupTurn.{GroupTurn}
 use Rattle.hub_core.specs.Closed.{HasClosed}
+use Rattle.hub_core.specs.Commissioned.{WantsAtFirst}
 use Rattle.line_model.specs.declared.fault.HubFault.{HubFault}
 use Rattle.knx_model.specs.Meaning.{Installation}
 use Rattle.bus_sim.specs.Ended.{IsAtEnd}
@@ -27,7 +28,7 @@ use Rattle.hub_core.specs.Thorough.{IsThorough}
 use Rattle.call_words.specs.declared.job_word.JobWord.{JobWord}
 use Rattle.line_model.specs.Haste.{LosesNoTimes}
 use Rattle.line_model.specs.Leaves.{LeavesRightly}
-use Rattle.line_model.specs.declared.fault.HubFault.TheVariants.{GatewayRefused, LinkFailed}
+use Rattle.line_model.specs.declared.fault.HubFault.TheVariants.{GatewayRefused, LinkFailed, NoMemory}
 use Rattle.line_model.specs.declared.fault.Try.{Try}
 use Rattle.line_model.specs.declared.log.LogEntry.{LogEntry}
 use Rattle.line_model.specs.OldStoppedOrNew.{MeansWhereDone, OldStoppedOrNew, RunsMeaning}
@@ -98,7 +99,7 @@ pub record IsTold (c : Commission) (jobs : List Job) (r : RunNow) (report : Repo
   pub hastens : LosesNoTimes jobs c.turns (log_in report) (placed (start r) r.events)
   -- the open channel isn't asked to end before all jobs are over, and then once, after the listening
   pub leaves : LeavesRightly jobs c.turns (log_in report) (placed (start r) r.events)
-  -- a fault has its cause in the record, want of memory and a failed link aside, and without one there is none in the end
+  -- a fault has its cause in the record, want of memory and a failed link aside, whose cause the line tells; and without one there is none in the end
   pub fault : FaultRight jobs (log_in report) (record_of (start r) r.events) report.fault
   pub tries : HasThreeTries report.fault
   -- the link failed only at the last time of 64 bits
@@ -144,14 +145,16 @@ pub record Left : Type 0 where
   pub line : BusNow
   pub report : Option Report
 
--- ---- where its link failed
+-- ---- where its link failed, or had no memory
 
 -- That the link failed is told only at the end of a run, which is the last time of 64 bits, 2^64 - 1 ms after it began. There a call of the simulated
--- line failed, and their count, which is 0 where a run begins, rose.
-abbrev pub FailsAtLast : HubFault → BusNow → Type 0
-FailsAtLast LinkFailed after = IsAtEnd after.run × Rose 0 after.faults
-FailsAtLast fault after = Unit {0}
+-- line failed, and their count, which is 0 where a run begins, rose. That there was no memory is told only where a call of the simulated line found none, and their
+-- count, which is 0 where a run begins, rose; or there was none before the first turn, and nothing has happened on the line.
+abbrev pub HasCauseOnLine : Report → BusNow → HubFault → Type 0
+HasCauseOnLine report after LinkFailed = IsAtEnd after.run × Rose 0 after.faults.failed
+HasCauseOnLine report after (NoMemory want) = Rose 0 after.faults.wanting ⊎ (WantsAtFirst (NoMemory want) report × (after.run.events ≡ []))
+HasCauseOnLine report after fault = Unit {0}
 
 abbrev pub FaultsOfLine : Option Report → BusNow → Type 0
 FaultsOfLine None after = Unit {0}
-FaultsOfLine (Some report) after = IfSome report.fault (λ fault. FailsAtLast fault after)
+FaultsOfLine (Some report) after = IfSome report.fault (HasCauseOnLine report after)

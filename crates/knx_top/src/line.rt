@@ -4,6 +4,7 @@ ghost use Rattle.std.specs.Prelude.{◌≡◌, ◌≢◌, Err, IfErr, IfOk, List
 ghost use Rattle.knx_model.specs.Rules.{has_device};
 ghost use Rattle.knx_model.specs.declared.address.IndAddr.{IndAddr as Address};
 ghost use Rattle.call_words.specs.declared.stop.Stop.TheVariants.{NoMemory as OutOfMemory};
+ghost use Rattle.line_model.specs.Polled.{none_failed};
 ghost use Rattle.line_model.specs.StartOf.{on_line_of_first, tunnel_address};
 ghost use Rattle.knx_top.specs.Begun.{BeginsLine};
 ghost use Rattle.call_parts.specs.Judged.{unless_strange};
@@ -122,7 +123,7 @@ pub fn line_begun<R: Threads + Sync>(
     script: &Script,
 ) -> Result<SimBus, Stop>
     ensures begun { IfOk result (λ line. BeginsLine new.now old.now script.now.lines line.run) }
-    ensures sound { IfOk result (λ line. line.faults ≡ 0) }
+    ensures sound { IfOk result (λ line. line.faults ≡ none_failed) }
     ensures refused { IfErr result (λ why. why ≢ OutOfMemory tt → unless_strange new.now old.now script.now.lines ≡ Err why) }
 {
     let bus = on_bus(alloc, new, old)?;

@@ -4,6 +4,7 @@ use Rattle.std.specs.Prelude.{◌≡◌, ℕ, zero, suc, [], Option, None, Some}
 use Rattle.knx_model.specs.Outside.{one_more}
 use Rattle.line_model.specs.Dialled.{Address}
 use Rattle.line_model.specs.LinkStory as of_link
+use Rattle.line_model.specs.Polled.{none_failed}
 use Rattle.line_model.specs.PortStory as of_port
 use Rattle.line_fixed.specs.declared.link.FixedLink.{FixedLink}
 use Rattle.line_fixed.specs.declared.port.FixedPort.{FixedPort}
@@ -18,13 +19,14 @@ pub record Dialling : Type 0 where
   pub given : Option Address
   pub dials : ℕ
   pub faults : ℕ
+  pub wanting : ℕ
 
 abbrev pub address_of : kept.Address → Address
 address_of address = record { host = address.host; port = address.port }
 
 -- nothing was done on a link, nor at a port, and no call of it failed
 abbrev pub IsUnusedLink : FixedLink → Type 0
-IsUnusedLink link = (link.entries ≡ []) × (link.faults ≡ 0)
+IsUnusedLink link = (link.entries ≡ []) × (link.faults ≡ none_failed)
 
 abbrev pub IsUnusedPort : FixedPort → Type 0
 IsUnusedPort port = (port.items ≡ []) × (port.faults ≡ 0)

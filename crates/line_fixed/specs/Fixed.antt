@@ -4,7 +4,6 @@ use Rattle.std.specs.Prelude.{◌≡◌, ℕ, ◌<◌, ◌⊎◌, List, [], ◌�
 use Rattle.std.specs.Option.{option_or}
 use Rattle.knx_model.specs.Outside.{one_more, greatest_count}
 use Rattle.line_model.specs.declared.outside.link.LinkFault.{LinkFault}
-use Rattle.line_model.specs.declared.outside.link.LinkFault.TheVariants as link_fault
 use Rattle.line_model.specs.declared.outside.link.Polled.{Polled}
 use Rattle.line_model.specs.declared.outside.link.Polled.TheVariants as link_answer
 use Rattle.line_model.specs.declared.outside.port.PortFault.{PortFault}
@@ -18,12 +17,7 @@ use Rattle.line_model.specs.Record.{Entry, Got, Quiet, entry, longest_got}
 
 -- ---- what a call leaves
 
--- the count of faults after a call
-abbrev pub with_fault : {X : Type 0} → Result X LinkFault → ℕ → ℕ
-with_fault (Ok x) faults = faults
-with_fault (Err (link_fault.NoMemory want)) faults = faults
-with_fault (Err link_fault.Failed) faults = one_more faults
-
+-- the count of a port's faults after a call
 abbrev pub with_port_fault : {X : Type 0} → Result X PortFault → ℕ → ℕ
 with_port_fault (Ok x) faults = faults
 with_port_fault (Err (port_fault.NoMemory want)) faults = faults

@@ -13,6 +13,7 @@ pub record OneLine (L : Type 0) : Type 0 where
   pub given : Option Address
   pub dials : ℕ
   pub faults : ℕ
+  pub wanting : ℕ
 
 -- what came back told last; nothing, where nothing came back yet
 abbrev pub line_told : {L : Type 0} → (L → Story) → Option L → Story

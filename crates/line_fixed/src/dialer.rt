@@ -4,6 +4,7 @@ ghost use Rattle.std.specs.Prelude.{◌≡◌, ◌≤◌, IfOk, IfSome, IsErr, M
 ghost use Rattle.knx_model.specs.Outside.{Rose, one_more};
 ghost use Rattle.line_model.specs.Dialled.{Address as Told, TakesBack, Tells};
 ghost use Rattle.line_model.specs.LinkStory.{IsNewLink, Recorded as LinkTold};
+ghost use Rattle.line_model.specs.Polled.{none_failed};
 ghost use Rattle.line_model.specs.PortStory.{IsNewPort, Recorded as PortTold};
 ghost use Rattle.line_fixed.specs.Dialling.{IsUnusedLink, IsUnusedPort, address_of, handing, link_told, port_told, taking_back};
 ghost use Rattle.line_fixed.specs.Fixed.{clock_by};
@@ -31,6 +32,7 @@ pub struct FixedDialer {
     given: Option<Address>,
     dials: u64,
     faults: u64,
+    wanting: u64,
 }
 
 impl Model for FixedDialer {
@@ -39,7 +41,7 @@ impl Model for FixedDialer {
 
     ghost Value = { Dialling };
 
-    ghost view = { λ d. record { link = d.link; port = d.port; link_back = d.link_back; port_back = d.port_back; given = option_map address_of d.given; dials = d.dials; faults = d.faults } };
+    ghost view = { λ d. record { link = d.link; port = d.port; link_back = d.link_back; port_back = d.port_back; given = option_map address_of d.given; dials = d.dials; faults = d.faults; wanting = d.wanting } };
 
     ghost invariant = { λ d. IfSome d.link IsUnusedLink × IfSome d.port IsUnusedPort };
 }
@@ -49,7 +51,7 @@ impl FixedDialer {
     pub fn new(link: Option<FixedLink>, port: Option<FixedPort>) -> FixedDialer
         requires link { IfSome link IsUnusedLink }
         requires port { IfSome port IsUnusedPort }
-        ensures { result ≡ record { link = link; port = port; link_back = None; port_back = None; given = None; dials = 0; faults = 0 } }
+        ensures { result ≡ record { link = link; port = port; link_back = None; port_back = None; given = None; dials = 0; faults = 0; wanting = 0 } }
     {
         FixedDialer {
             link,
@@ -59,6 +61,7 @@ impl FixedDialer {
             given: None,
             dials: 0,
             faults: 0,
+            wanting: 0,
         }
     }
 
@@ -105,13 +108,14 @@ impl Dialer for FixedDialer {
 
     type P = FixedPort;
 
-    ghost now = { λ d. record { faults = d.faults; dials = d.dials; given = d.given; link_back = link_told d.link_back; port_back = port_told d.port_back } };
+    ghost now = { λ d. record { faults = d.faults; wanting = d.wanting; dials = d.dials; given = d.given; link_back = link_told d.link_back; port_back = port_told d.port_back } };
 
     fn dial(&mut self, host: [u8; 4], port: u16) -> Result<FixedLink, DialFailed>
         ensures fresh { IfOk result (λ l. IsNewLink (LinkTold (clock_by l.lasting) l.entries)) }
-        ensures sound { IfOk result (λ l. l.faults ≡ 0) }
+        ensures sound { IfOk result (λ l. l.faults ≡ none_failed) }
         ensures failed { OnErr result (Rose self.old.faults self.new.faults) }
         ensures count { self.old.faults ≤ self.new.faults }
+        ensures wanting { self.new.wanting ≡ self.old.wanting }
         ensures tells { Tells host port self.new.given }
         ensures dials { self.new.dials ≡ one_more self.old.dials }
         ensures link_stays { link_told self.new.link_back ≡ link_told self.old.link_back }
@@ -136,6 +140,7 @@ impl Dialer for FixedDialer {
         ensures sound { IfOk result (λ p. p.faults ≡ 0) }
         ensures failed { OnErr result (Rose self.old.faults self.new.faults) }
         ensures count { self.old.faults ≤ self.new.faults }
+        ensures wanting { self.new.wanting ≡ self.old.wanting }
         ensures tells { Tells host port self.new.given }
         ensures dials { self.new.dials ≡ one_more self.old.dials }
         ensures link_stays { link_told self.new.link_back ≡ link_told self.old.link_back }
@@ -155,20 +160,25 @@ impl Dialer for FixedDialer {
     }
 
     fn hang(&mut self, line: FixedLink)
-        ensures count { TakesBack line.faults self.old.faults self.new.faults }
+        ensures count { TakesBack line.faults.failed self.old.faults self.new.faults }
+        ensures wanting { TakesBack line.faults.wanting self.old.wanting self.new.wanting }
         ensures told { link_told self.new.link_back ≡ LinkTold (clock_by line.lasting) line.entries }
         ensures given { self.new.given ≡ self.old.given }
         ensures dials { self.new.dials ≡ self.old.dials }
-        ensures after { self.new ≡ record self.old { link_back = Some line; faults = taking_back line.faults self.old.faults } }
+        ensures after { self.new ≡ record self.old { link_back = Some line; faults = taking_back line.faults.failed self.old.faults; wanting = taking_back line.faults.wanting self.old.wanting } }
     {
-        if line.faults != 0 {
+        if line.faults.failed != 0 {
             self.faults = self.faults.saturating_add(1);
+        }
+        if line.faults.wanting != 0 {
+            self.wanting = self.wanting.saturating_add(1);
         }
         self.link_back = Some(line);
     }
 
     fn shut(&mut self, door: FixedPort)
         ensures count { TakesBack door.faults self.old.faults self.new.faults }
+        ensures wanting { self.new.wanting ≡ self.old.wanting }
         ensures told { port_told self.new.port_back ≡ PortTold door.items }
         ensures given { self.new.given ≡ self.old.given }
         ensures dials { self.new.dials ≡ self.old.dials }

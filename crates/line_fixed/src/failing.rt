@@ -3,11 +3,10 @@
 ghost use Rattle.std.specs.Prelude.{◌≡◌, ◌≢◌, ◌≤◌, ◌↔◌, Err, Ok, OnErr, OnOk};
 ghost use Rattle.knx_model.specs.Outside.{one_more};
 ghost use Rattle.line_model.specs.LinkStory.{IsPlace, IsTime, Renews, RenewsOrNot, Sends, SendsOrNot};
-ghost use Rattle.line_model.specs.Polled.{FailsWhere, PollsSo};
+ghost use Rattle.line_model.specs.Polled.{FailsWhere, NeverFall, PollsSo, after_call, none_failed};
 ghost use Rattle.line_model.specs.declared.outside.link.LinkFault.TheVariants.{Failed};
-ghost use Rattle.line_fixed.specs.Fixed.{with_fault};
 
-use line_model::{Link, LinkFault, Polled};
+use line_model::{Link, LinkCounts, LinkFault, Polled};
 
 /// A link that passes every call on to another, but the one with the number `fails_at`, from 1, which fails. It tells what the other tells.
 #[derive(Drop)]
@@ -15,49 +14,37 @@ pub struct FailingLink<L: Link> {
     pub link: L,
     pub fails_at: u64,
     pub calls: u64,
-    /// How many calls failed, those that were passed on too.
-    pub faults: u64,
+    /// How many calls failed, and how many found no memory, those that were passed on too.
+    pub faults: LinkCounts,
 }
 
 impl<L: Link> FailingLink<L> {
     /// A link of which no call was made yet.
     pub fn new(link: L, fails_at: u64) -> FailingLink<L>
         ensures given { (result.link ≡ link) × (result.fails_at ≡ fails_at) }
-        ensures counts { (result.calls ≡ 0) × (result.faults ≡ 0) }
+        ensures counts { (result.calls ≡ 0) × (result.faults ≡ none_failed) }
     {
         FailingLink {
             link,
             fails_at,
             calls: 0,
-            faults: 0,
+            faults: LinkCounts::none(),
         }
     }
 
     /// Counts a call; it fails where it is the one that does.
     fn begin(&mut self) -> Result<(), LinkFault>
-        ensures after { self.new ≡ record self.old { calls = one_more self.old.calls; faults = with_fault result self.old.faults } }
+        ensures after { self.new ≡ record self.old { calls = one_more self.old.calls; faults = after_call result self.old.faults } }
         ensures fails { OnErr result ((result ≡ Err Failed) × (self.new.calls ≡ self.old.fails_at)) }
         ensures passes { OnOk result (self.new.calls ≢ self.old.fails_at) }
-        ensures count { self.old.faults ≤ self.new.faults }
+        ensures cause { FailsWhere result self.old.faults self.new.faults }
+        ensures count { NeverFall self.old.faults self.new.faults }
     {
         self.calls = self.calls.saturating_add(1);
         if self.calls == self.fails_at {
-            self.faults = self.faults.saturating_add(1);
-            return Err(LinkFault::Failed);
+            return self.faults.count(Err(LinkFault::Failed));
         }
         Ok(())
-    }
-
-    /// Counts an answer that is a failure.
-    fn count<T>(&mut self, answer: Result<T, LinkFault>) -> Result<T, LinkFault>
-        ensures same { result ≡ answer }
-        ensures after { self.new ≡ record self.old { faults = with_fault answer self.old.faults } }
-        ensures count { self.old.faults ≤ self.new.faults }
-    {
-        if matches!(answer, Err(LinkFault::Failed)) {
-            self.faults = self.faults.saturating_add(1);
-        }
-        answer
     }
 }
 
@@ -76,51 +63,51 @@ impl<L: Link> Link for FailingLink<L> {
         ensures sent { OnOk result (Sends octets.now (L.story self.old.link) (L.story self.new.link)) }
         ensures failed { OnErr result (SendsOrNot octets.now (L.story self.old.link) (L.story self.new.link)) }
         ensures cause { FailsWhere result self.old.faults self.new.faults }
-        ensures count { self.old.faults ≤ self.new.faults }
+        ensures count { NeverFall self.old.faults self.new.faults }
         ensures time { L.clock self.new.link ≡ L.clock self.old.link }
         ensures events { L.place self.old.link ≤ L.place self.new.link }
         ensures script { L.script self.new.link ≡ L.script self.old.link }
         // the one call fails and isn't passed on; of another that fails the link's count rose
-        ensures counts { self.new ≡ record self.old { link = self.new.link; calls = one_more self.old.calls; faults = with_fault result self.old.faults } }
+        ensures counts { self.new ≡ record self.old { link = self.new.link; calls = one_more self.old.calls; faults = after_call result self.old.faults } }
         ensures fails { self.new.calls ≡ self.old.fails_at → (result ≡ Err Failed) × (self.new.link ≡ self.old.link) }
         ensures passes { self.new.calls ≢ self.old.fails_at → FailsWhere result (L.faults self.old.link) (L.faults self.new.link) }
     {
         self.begin()?;
         let answer = self.link.send(octets);
-        self.count(answer)
+        self.faults.count(answer)
     }
 
     fn renew(&mut self) -> Result<(), LinkFault>
         ensures renewed { OnOk result (Renews (L.story self.old.link) (L.story self.new.link)) }
         ensures failed { OnErr result (RenewsOrNot (L.story self.old.link) (L.story self.new.link)) }
         ensures cause { FailsWhere result self.old.faults self.new.faults }
-        ensures count { self.old.faults ≤ self.new.faults }
+        ensures count { NeverFall self.old.faults self.new.faults }
         ensures time { L.clock self.new.link ≡ L.clock self.old.link }
         ensures events { L.place self.old.link ≤ L.place self.new.link }
         ensures script { L.script self.new.link ≡ L.script self.old.link }
-        ensures counts { self.new ≡ record self.old { link = self.new.link; calls = one_more self.old.calls; faults = with_fault result self.old.faults } }
+        ensures counts { self.new ≡ record self.old { link = self.new.link; calls = one_more self.old.calls; faults = after_call result self.old.faults } }
         ensures fails { self.new.calls ≡ self.old.fails_at → (result ≡ Err Failed) × (self.new.link ≡ self.old.link) }
         ensures passes { self.new.calls ≢ self.old.fails_at → FailsWhere result (L.faults self.old.link) (L.faults self.new.link) }
     {
         self.begin()?;
         let answer = self.link.renew();
-        self.count(answer)
+        self.faults.count(answer)
     }
 
     fn poll(&mut self, into: &mut [u8; 512], wait_ms: u32) -> Result<Polled, LinkFault>
         ensures polled { PollsSo result into.new wait_ms (L.clock self.new.link) (L.story self.old.link) (L.story self.new.link) }
         ensures cause { FailsWhere result self.old.faults self.new.faults }
-        ensures count { self.old.faults ≤ self.new.faults }
+        ensures count { NeverFall self.old.faults self.new.faults }
         ensures time { L.clock self.old.link ≤ L.clock self.new.link }
         ensures events { L.place self.old.link ≤ L.place self.new.link }
         ensures script { L.script self.new.link ≡ L.script self.old.link }
-        ensures counts { self.new ≡ record self.old { link = self.new.link; calls = one_more self.old.calls; faults = with_fault result self.old.faults } }
+        ensures counts { self.new ≡ record self.old { link = self.new.link; calls = one_more self.old.calls; faults = after_call result self.old.faults } }
         ensures fails { self.new.calls ≡ self.old.fails_at → (result ≡ Err Failed) × (self.new.link ≡ self.old.link) }
         ensures passes { self.new.calls ≢ self.old.fails_at → FailsWhere result (L.faults self.old.link) (L.faults self.new.link) }
     {
         self.begin()?;
         let answer = self.link.poll(into, wait_ms);
-        self.count(answer)
+        self.faults.count(answer)
     }
 
     fn now(&self) -> u64

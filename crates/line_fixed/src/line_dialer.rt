@@ -20,6 +20,7 @@ pub struct LineDialer<N: Link + Send> {
     given: Option<Address>,
     dials: u64,
     faults: u64,
+    wanting: u64,
 }
 
 impl<N: Link + Send> Model for LineDialer<N> {
@@ -30,7 +31,7 @@ impl<N: Link + Send> Model for LineDialer<N> {
 
     ghost Value = { OneLine N };
 
-    ghost view = { λ d. record { line = d.line; fails_at = d.fails_at; line_back = d.line_back; port_back = d.port_back; given = option_map address_of d.given; dials = d.dials; faults = d.faults } };
+    ghost view = { λ d. record { line = d.line; fails_at = d.fails_at; line_back = d.line_back; port_back = d.port_back; given = option_map address_of d.given; dials = d.dials; faults = d.faults; wanting = d.wanting } };
 
     ghost invariant = { λ d. IfSome d.line (λ line. IsNewLink (N.story line)) };
 }
@@ -39,7 +40,7 @@ impl<N: Link + Send> LineDialer<N> {
     /// A dialer of which no call was made yet.
     pub fn new(line: N, fails_at: u64) -> LineDialer<N>
         requires { IsNewLink (N.story line) }
-        ensures { result ≡ record { line = Some line; fails_at = fails_at; line_back = None; port_back = None; given = None; dials = 0; faults = 0 } }
+        ensures { result ≡ record { line = Some line; fails_at = fails_at; line_back = None; port_back = None; given = None; dials = 0; faults = 0; wanting = 0 } }
     {
         LineDialer {
             line: Some(line),
@@ -49,6 +50,7 @@ impl<N: Link + Send> LineDialer<N> {
             given: None,
             dials: 0,
             faults: 0,
+            wanting: 0,
         }
     }
 
@@ -75,7 +77,7 @@ impl<N: Link + Send> Dialer for LineDialer<N> {
 
     type P = FixedPort;
 
-    ghost now = { λ d. record { faults = d.faults; dials = d.dials; given = d.given; link_back = line_told N.story d.line_back; port_back = port_told d.port_back } };
+    ghost now = { λ d. record { faults = d.faults; wanting = d.wanting; dials = d.dials; given = d.given; link_back = line_told N.story d.line_back; port_back = port_told d.port_back } };
 
     fn dial(&mut self, host: [u8; 4], port: u16) -> Result<FailingLink<N>, DialFailed> {
         self.dials = self.dials.saturating_add(1);
@@ -103,8 +105,11 @@ impl<N: Link + Send> Dialer for LineDialer<N> {
             calls: _,
             faults,
         } = line;
-        if faults != 0 {
+        if faults.failed != 0 {
             self.faults = self.faults.saturating_add(1);
+        }
+        if faults.wanting != 0 {
+            self.wanting = self.wanting.saturating_add(1);
         }
         self.line_back = Some(link);
     }

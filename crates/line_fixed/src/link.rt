@@ -3,17 +3,17 @@
 ghost use Rattle.std.specs.Prelude.{◌≡◌, ◌≤◌, ◌↔◌, ◌+◌, ◌<◌, ℕ, [], Err, IfOk, OnErr, OnOk, length, option_copied, slice_get};
 ghost use Rattle.knx_model.specs.Outside.{greatest_count, one_more};
 ghost use Rattle.line_model.specs.LinkStory.{IsPlace, IsTime, Recorded, Renews, RenewsOrNot, Sends, SendsOrNot, newest_time};
-ghost use Rattle.line_model.specs.Polled.{FailsWhere, PollsSo};
+ghost use Rattle.line_model.specs.Polled.{FailsWhere, NeverFall, PollsSo, after_call, none_failed};
 ghost use Rattle.line_model.specs.Record.{Put, Renewed, entry};
 ghost use Rattle.line_model.specs.declared.outside.link.LinkFault.TheVariants.{Failed};
 ghost use Rattle.line_fixed.specs.Entries.{told};
-ghost use Rattle.line_fixed.specs.Fixed.{Answers, Fails, brought, clock_by, lasts, next_of, with_answer, with_entry, with_fault};
+ghost use Rattle.line_fixed.specs.Fixed.{Answers, Fails, brought, clock_by, lasts, next_of, with_answer, with_entry};
 
 use crate::entries::Entries;
 use crate::item::Item;
 use crate::next::{LONGEST_GOT, copy_into, next_of};
 use knx_model::{List, NoMemory, Octets, front};
-use line_model::{Link, LinkFault, Polled};
+use line_model::{Link, LinkCounts, LinkFault, Polled};
 use std::alloc::Global;
 
 /// A link that gives its datagrams in order, and then its last one for ever or quiet waits. It takes no time but in a quiet wait, unless it is told how
@@ -32,7 +32,7 @@ pub struct FixedLink {
     /// What was done.
     pub entries: Entries,
     pub calls: u64,
-    pub faults: u64,
+    pub faults: LinkCounts,
 }
 
 impl FixedLink {
@@ -45,7 +45,7 @@ impl FixedLink {
     ) -> FixedLink
         ensures given { (result.gives ≡ gives) × (result.last ≡ last) × (result.fails ≡ fails) × (result.lasting ≡ []) }
         ensures entries { result.entries ≡ [] }
-        ensures counts { (result.answered ≡ 0) × (result.calls ≡ 0) × (result.faults ≡ 0) }
+        ensures counts { (result.answered ≡ 0) × (result.calls ≡ 0) × (result.faults ≡ none_failed) }
     {
         FixedLink {
             alloc,
@@ -56,26 +56,22 @@ impl FixedLink {
             answered: 0,
             entries: Entries::new(alloc),
             calls: 0,
-            faults: 0,
+            faults: LinkCounts::none(),
         }
     }
 
     /// Counts a call that takes so many milliseconds, and answers the time after it; or it fails.
     fn begin(&mut self, wait_ms: u32) -> Result<u64, LinkFault>
-        ensures after { self.new ≡ record self.old { calls = one_more self.old.calls; faults = with_fault result self.old.faults } }
+        ensures after { self.new ≡ record self.old { calls = one_more self.old.calls } }
         ensures time { IfOk result (λ now. now ≡ newest_time self.old.entries + wait_ms) }
         ensures room { OnOk result (length self.old.entries < greatest_count) }
         ensures fails { (result ≡ Err Failed) ↔ Fails self.old.fails self.new.calls self.old.entries (newest_time self.old.entries + wait_ms) }
         ensures failed { OnErr result (result ≡ Err Failed) }
-        ensures count { self.old.faults ≤ self.new.faults }
     {
         self.calls = self.calls.saturating_add(1);
         match self.entries.time_of_next(wait_ms) {
             Some(now) if !self.fails.as_slice().contains(&self.calls) => Ok(now),
-            _ => {
-                self.faults = self.faults.saturating_add(1);
-                Err(LinkFault::Failed)
-            }
+            _ => Err(LinkFault::Failed),
         }
     }
 
@@ -99,6 +95,52 @@ impl FixedLink {
             Some(_) => 0,
             None => wait_ms,
         }
+    }
+
+    /// Sends a datagram; a fault of it is still to be counted.
+    fn put(&mut self, octets: &[u8]) -> Result<(), LinkFault>
+        ensures sent { OnOk result (Sends octets.now (Recorded (clock_by self.old.lasting) self.old.entries) (Recorded (clock_by self.new.lasting) self.new.entries)) }
+        ensures failed { OnErr result (SendsOrNot octets.now (Recorded (clock_by self.old.lasting) self.old.entries) (Recorded (clock_by self.new.lasting) self.new.entries)) }
+        ensures time { newest_time self.new.entries ≡ newest_time self.old.entries }
+        ensures after { self.new ≡ record self.old { calls = one_more self.old.calls; entries = with_entry result (entry (Put octets.now) (newest_time self.old.entries)) self.old.entries } }
+        ensures events { length self.old.entries ≤ length self.new.entries }
+        ensures fails { (result ≡ Err Failed) ↔ Fails self.old.fails self.new.calls self.old.entries (newest_time self.old.entries) }
+    {
+        let now = self.begin(0)?;
+        let octets = Octets::from_slice(self.alloc, octets)?;
+        self.entries.add(Item::Put(octets), now)?;
+        Ok(())
+    }
+
+    /// Takes a new endpoint; a fault of it is still to be counted.
+    fn take_endpoint(&mut self) -> Result<(), LinkFault>
+        ensures renewed { OnOk result (Renews (Recorded (clock_by self.old.lasting) self.old.entries) (Recorded (clock_by self.new.lasting) self.new.entries)) }
+        ensures failed { OnErr result (RenewsOrNot (Recorded (clock_by self.old.lasting) self.old.entries) (Recorded (clock_by self.new.lasting) self.new.entries)) }
+        ensures time { newest_time self.new.entries ≡ newest_time self.old.entries }
+        ensures after { self.new ≡ record self.old { calls = one_more self.old.calls; entries = with_entry result (entry Renewed (newest_time self.old.entries)) self.old.entries } }
+        ensures events { length self.old.entries ≤ length self.new.entries }
+        ensures fails { (result ≡ Err Failed) ↔ Fails self.old.fails self.new.calls self.old.entries (newest_time self.old.entries) }
+    {
+        let now = self.begin(0)?;
+        self.entries.add(Item::Renewed, now)?;
+        Ok(())
+    }
+
+    /// Waits for a datagram; a fault of it is still to be counted.
+    fn wait(&mut self, into: &mut [u8; LONGEST_GOT], wait_ms: u32) -> Result<Polled, LinkFault>
+        ensures polled { PollsSo result into.new wait_ms (newest_time self.new.entries) (Recorded (clock_by self.old.lasting) self.old.entries) (Recorded (clock_by self.new.lasting) self.new.entries) }
+        ensures time { newest_time self.old.entries ≤ newest_time self.new.entries }
+        ensures after { let next = next_of self.old.gives self.old.last self.old.answered in let now = brought next (newest_time self.old.entries + lasts (slice_get self.old.lasting self.old.answered) next wait_ms) in self.new ≡ record self.old { calls = one_more self.old.calls; answered = with_answer result self.old.answered; entries = with_entry result now self.old.entries } }
+        ensures events { length self.old.entries ≤ length self.new.entries }
+        ensures fails { let next = next_of self.old.gives self.old.last self.old.answered in let now = brought next (newest_time self.old.entries + lasts (slice_get self.old.lasting self.old.answered) next wait_ms) in (result ≡ Err Failed) ↔ Fails self.old.fails self.new.calls self.old.entries now.now }
+        ensures answer { IfOk result (λ polled. Answers polled into.new (next_of self.old.gives self.old.last self.old.answered)) }
+    {
+        let now = self.begin(self.wait_of(wait_ms))?;
+        let next = next_of(self.gives.as_slice(), &self.last, self.answered);
+        let (item, polled) = brought(self.alloc, next, into)?;
+        self.entries.add(item, now)?;
+        self.answered = self.answered.saturating_add(1);
+        Ok(polled)
     }
 }
 
@@ -142,51 +184,44 @@ impl Link for FixedLink {
         ensures sent { OnOk result (Sends octets.now (Recorded (clock_by self.old.lasting) self.old.entries) (Recorded (clock_by self.new.lasting) self.new.entries)) }
         ensures failed { OnErr result (SendsOrNot octets.now (Recorded (clock_by self.old.lasting) self.old.entries) (Recorded (clock_by self.new.lasting) self.new.entries)) }
         ensures cause { FailsWhere result self.old.faults self.new.faults }
-        ensures count { self.old.faults ≤ self.new.faults }
+        ensures count { NeverFall self.old.faults self.new.faults }
         ensures time { newest_time self.new.entries ≡ newest_time self.old.entries }
         ensures events { length self.old.entries ≤ length self.new.entries }
         // a call adds its entry, or fails and adds nothing
-        ensures after { self.new ≡ record self.old { calls = one_more self.old.calls; faults = with_fault result self.old.faults; entries = with_entry result (entry (Put octets.now) (newest_time self.old.entries)) self.old.entries } }
+        ensures after { self.new ≡ record self.old { calls = one_more self.old.calls; faults = after_call result self.old.faults; entries = with_entry result (entry (Put octets.now) (newest_time self.old.entries)) self.old.entries } }
         ensures fails { (result ≡ Err Failed) ↔ Fails self.old.fails self.new.calls self.old.entries (newest_time self.old.entries) }
     {
-        let now = self.begin(0)?;
-        let octets = Octets::from_slice(self.alloc, octets)?;
-        self.entries.add(Item::Put(octets), now)?;
-        Ok(())
+        let sent = self.put(octets);
+        self.faults.count(sent)
     }
 
     fn renew(&mut self) -> Result<(), LinkFault>
         ensures renewed { OnOk result (Renews (Recorded (clock_by self.old.lasting) self.old.entries) (Recorded (clock_by self.new.lasting) self.new.entries)) }
         ensures failed { OnErr result (RenewsOrNot (Recorded (clock_by self.old.lasting) self.old.entries) (Recorded (clock_by self.new.lasting) self.new.entries)) }
         ensures cause { FailsWhere result self.old.faults self.new.faults }
-        ensures count { self.old.faults ≤ self.new.faults }
+        ensures count { NeverFall self.old.faults self.new.faults }
         ensures time { newest_time self.new.entries ≡ newest_time self.old.entries }
         ensures events { length self.old.entries ≤ length self.new.entries }
-        ensures after { self.new ≡ record self.old { calls = one_more self.old.calls; faults = with_fault result self.old.faults; entries = with_entry result (entry Renewed (newest_time self.old.entries)) self.old.entries } }
+        ensures after { self.new ≡ record self.old { calls = one_more self.old.calls; faults = after_call result self.old.faults; entries = with_entry result (entry Renewed (newest_time self.old.entries)) self.old.entries } }
         ensures fails { (result ≡ Err Failed) ↔ Fails self.old.fails self.new.calls self.old.entries (newest_time self.old.entries) }
     {
-        let now = self.begin(0)?;
-        self.entries.add(Item::Renewed, now)?;
-        Ok(())
+        let renewed = self.take_endpoint();
+        self.faults.count(renewed)
     }
 
     fn poll(&mut self, into: &mut [u8; LONGEST_GOT], wait_ms: u32) -> Result<Polled, LinkFault>
         ensures polled { PollsSo result into.new wait_ms (newest_time self.new.entries) (Recorded (clock_by self.old.lasting) self.old.entries) (Recorded (clock_by self.new.lasting) self.new.entries) }
         ensures cause { FailsWhere result self.old.faults self.new.faults }
-        ensures count { self.old.faults ≤ self.new.faults }
+        ensures count { NeverFall self.old.faults self.new.faults }
         ensures time { newest_time self.old.entries ≤ newest_time self.new.entries }
         ensures events { length self.old.entries ≤ length self.new.entries }
         // a call brings the next datagram or a quiet wait, or it fails and brings nothing
-        ensures after { let next = next_of self.old.gives self.old.last self.old.answered in let now = brought next (newest_time self.old.entries + lasts (slice_get self.old.lasting self.old.answered) next wait_ms) in self.new ≡ record self.old { calls = one_more self.old.calls; faults = with_fault result self.old.faults; answered = with_answer result self.old.answered; entries = with_entry result now self.old.entries } }
+        ensures after { let next = next_of self.old.gives self.old.last self.old.answered in let now = brought next (newest_time self.old.entries + lasts (slice_get self.old.lasting self.old.answered) next wait_ms) in self.new ≡ record self.old { calls = one_more self.old.calls; faults = after_call result self.old.faults; answered = with_answer result self.old.answered; entries = with_entry result now self.old.entries } }
         ensures fails { let next = next_of self.old.gives self.old.last self.old.answered in let now = brought next (newest_time self.old.entries + lasts (slice_get self.old.lasting self.old.answered) next wait_ms) in (result ≡ Err Failed) ↔ Fails self.old.fails self.new.calls self.old.entries now.now }
         ensures answer { IfOk result (λ polled. Answers polled into.new (next_of self.old.gives self.old.last self.old.answered)) }
     {
-        let now = self.begin(self.wait_of(wait_ms))?;
-        let next = next_of(self.gives.as_slice(), &self.last, self.answered);
-        let (item, polled) = brought(self.alloc, next, into)?;
-        self.entries.add(item, now)?;
-        self.answered = self.answered.saturating_add(1);
-        Ok(polled)
+        let polled = self.wait(into, wait_ms);
+        self.faults.count(polled)
     }
 
     fn now(&self) -> u64

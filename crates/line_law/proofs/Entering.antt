@@ -1,5 +1,6 @@
 -- An entry of the record by which no request is put and none taken.
 use Rattle.std.proofs.Common.{◌≡◌, ℕ, suc, List, [], ◌∷◌, length, Bool, true, false, ◌&&◌, cond, Option, Some, None, refl, sym, ◌∙◌, ap, subst, inl, arith, if◌then◌else◌}
+use Rattle.knx_model.specs.declared.address.IndAddr.{IndAddr}
 use Rattle.knx_model.specs.declared.frames.cemi.Ldata.{Ldata}
 use Rattle.knx_model.specs.Plans.{Plan}
 use Rattle.line_model.specs.ActedOnce.{Has}
@@ -206,21 +207,25 @@ unfolding traffic
 deed_lost c l x h = rw h refl
 
 -- what counts of it
+abbrev pub own_of : ClientChannel → Option IndAddr
+own_of (Open c l) = view.own_address l
+own_of _ = None
+
 abbrev pub last_of : ClientChannel → Option Ldata
 last_of (Open c l) = last_frame c l
 last_of _ = None
 
-counted_by : (last : Option Ldata) (what : Deed) (b : Bool) → ◌≡◌ {A = Deed} (if b then view.Loses else view.as_counted last what) (view.as_counted last (if b then view.Loses else what))
-counted_by last what true = refl
-counted_by last what false = refl
+counted_by : (own : Option IndAddr) (last : Option Ldata) (what : Deed) (b : Bool) → ◌≡◌ {A = Deed} (if b then view.Loses else view.as_counted own last what) (view.as_counted own last (if b then view.Loses else what))
+counted_by own last what true = refl
+counted_by own last what false = refl
 
-pub counted_is : (c : ClientChannel) (x : Entry) → deed c x ≡ view.as_counted (last_of c) (traffic c x)
+pub counted_is : (c : ClientChannel) (x : Entry) → deed c x ≡ view.as_counted (own_of c) (last_of c) (traffic c x)
 unfolding traffic deed
 counted_is Fresh x = refl
 counted_is (Sought since) x = refl
 counted_is (RefusedBy status) x = refl
 counted_is Unanswered x = refl
-counted_is (Open c l) x = counted_by (last_frame c l) (view.deed_in c l x) (is_lost c l x)
+counted_is (Open c l) x = counted_by (view.own_address l) (last_frame c l) (view.deed_in c l x) (is_lost c l x)
 counted_is (Lost c) x = refl
 
 -- what is put and what is taken

@@ -3,6 +3,9 @@ pub mod Coupled
 pub mod Owned
 pub mod Alike
 pub mod ReadBack
+pub mod Homeward
+pub mod OwnAddress
+pub mod Arrivals
 mod OnBus
 mod Bus
 mod Changes

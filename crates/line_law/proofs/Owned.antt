@@ -110,7 +110,7 @@ own_last b d t (Some f) h = own_takes b d f t Whole h
 pub own_again : (b : ℕ) (d : DeviceState) (t : ℕ) → IsOwned b d → IsOwned b (taken_again d t)
 own_again b d t h = own_last b d t d.last h
 
-own_dropped : (P : Ldata → Type 0) (l : List Ldata) → Every P l → Every P (drop 1 l)
+pub own_dropped : (P : Ldata → Type 0) (l : List Ldata) → Every P l → Every P (drop 1 l)
 own_dropped P [] h = tt
 own_dropped P (f ∷ l) h = h.1
 
@@ -142,21 +142,21 @@ own_on b d h = own_on_by b d _ d.power h (record { named = h.named; frames = tt 
 abbrev AllOwned : Devices → Type 0
 AllOwned devices = (b : ℕ) (d : DeviceState) → devices b ≡ Some d → IsOwned b d
 
-mapped : (b : ℕ) (f : DeviceState → DeviceState) (o : Option DeviceState) → ((d : DeviceState) → o ≡ Some d → IsOwned b (f d)) → (d : DeviceState) → option_map f o ≡ Some d → IsOwned b d
-mapped b f None h d e = absurd (cc)
-mapped b f (Some x) h d e = let same : f x ≡ d = cc in subst (IsOwned b) same (h x refl)
+pub mapped : (P : DeviceState → Type 0) (f : DeviceState → DeviceState) (o : Option DeviceState) → ((d : DeviceState) → o ≡ Some d → P (f d)) → (d : DeviceState) → option_map f o ≡ Some d → P d
+mapped P f None h d e = absurd (cc)
+mapped P f (Some x) h d e = let same : f x ≡ d = cc in subst P same (h x refl)
 
-chosen : (b : ℕ) (t : Bool) (o p : Option DeviceState) → ((d : DeviceState) → o ≡ Some d → IsOwned b d) → ((d : DeviceState) → p ≡ Some d → IsOwned b d) → (d : DeviceState) → cond t o p ≡ Some d → IsOwned b d
-chosen b true o p h g d e = h d e
-chosen b false o p h g d e = g d e
+pub chosen : (P : DeviceState → Type 0) (t : Bool) (o p : Option DeviceState) → ((d : DeviceState) → o ≡ Some d → P d) → ((d : DeviceState) → p ≡ Some d → P d) → (d : DeviceState) → cond t o p ≡ Some d → P d
+chosen P true o p h g d e = h d e
+chosen P false o p h g d e = g d e
 
 own_changed : (device : ℕ) (f : DeviceState → DeviceState) (devices : Devices) → ((b : ℕ) (d : DeviceState) → IsOwned b d → IsOwned b (f d)) → AllOwned devices → AllOwned (changed device f devices)
-own_changed device f devices k h b d e = chosen b (b == device) (option_map f (devices b)) (devices b) (mapped b f (devices b) (λ x q. k b x (h b x q))) (h b) d e
+own_changed device f devices k h b d e = chosen (IsOwned b) (b == device) (option_map f (devices b)) (devices b) (mapped (IsOwned b) f (devices b) (λ x q. k b x (h b x q))) (h b) d e
 
 own_all : (t : ℕ) (left_out : List ℕ) (o : Option Ldata) (devices : Devices) → AllOwned devices → AllOwned (all_take t left_out o devices)
 own_all t left_out None devices h b d e = h b d e
 own_all t left_out (Some f) devices h b d e =
-    chosen b (is_among left_out b) (devices b) (option_map (λ (x : DeviceState). takes x f t Whole) (devices b)) (h b) (mapped b (λ x. takes x f t Whole) (devices b) (λ x q. own_takes b x f t Whole (h b x q))) d e
+    chosen (IsOwned b) (is_among left_out b) (devices b) (option_map (λ (x : DeviceState). takes x f t Whole) (devices b)) (h b) (mapped (IsOwned b) (λ x. takes x f t Whole) (devices b) (λ x q. own_takes b x f t Whole (h b x q))) d e
 
 own_one : (t : ℕ) (outcome : Outcome) (o : Option Ldata) (devices : Devices) → AllOwned devices → AllOwned (one_takes t outcome o devices)
 own_one t outcome None devices h = h

@@ -20,9 +20,8 @@ use Rattle.session_law.specs.World.{World as SessionWorld, fresh}
 use Rattle.session_law.specs.Events as event
 use Rattle.session_law.specs.Events.{Event as SessionEvent, replay, IsLegal}
 use Rattle.load_law.specs.Download.{MayAsk, Follows}
-use Rattle.tunnel_law.proofs.Inside.{Every}
-use Rattle.line_law.proofs.Coupled.{IsFrameOf, OwnIf, Owned, Never, echo_of, Coupled}
-use Rattle.line_law.proofs.Owned.{owned_step}
+use Rattle.line_law.proofs.Coupled.{Never, echo_of, Coupled}
+use Rattle.line_law.proofs.Arrivals.{owned_always, arrives}
 use Rattle.line_law.proofs.HeldJobs.{HeldPlan, AllAttempted}
 use Rattle.line_law.proofs.Traces.{Adds, StepBy, Follower, event_step}
 use Rattle.line_law.proofs.RunsBefore.{IsRun, run_before}
@@ -54,17 +53,6 @@ begin_coupled a start d f is =
 
 pub begin_follower : (jobs : List Job) (log : List LogEntry) (a : ℕ) (start : World) (d : DeviceState) → IsFresh start → start.devices a ≡ Some d → Follower jobs log a start [] (fresh (me start) d)
 begin_follower jobs log a start d f is = record { coupled = begin_coupled a start d f is; attempted = λ h. tt }
-
-begin_owned : (start : World) → IsFresh start → Owned start
-begin_owned start f =
-    record {
-      devices = λ b d e. (let rest : IsAtRest b d = f.devices b d e in record { named = rest.named; frames = subst (Every (IsFrameOf b)) (sym rest.nothing_unsent) tt });
-      echo = subst OwnIf (sym f.echo) tt;
-    }
-
-pub owned_always : (start : World) (events : List Event) → IsFresh start → Owned (line.replay start events)
-owned_always start [] f = begin_owned start f
-owned_always start (e ∷ events) f = owned_step (line.replay start events) e (owned_always start events f)
 
 -- ---- the run of the session, moment by moment
 
@@ -103,7 +91,7 @@ module _ (jobs : List Job) (turns : List GroupTurn) (count : ℕ) (log : List Lo
       let past : List SessionEvent = t.0 in
       let s : SessionWorld = replay (fresh (me start) d) past in
       let g : StepBy jobs log a (length events) (step (line.replay start events) e) (record_of start (e ∷ events)) (moments (placed start events)) (placed start (e ∷ events)) s
-      = event_step jobs turns count log form alone can a start events s (follower_now t.1) e h (owned_always start events h.begins) in
+      = event_step jobs turns count log form alone can a start events s (follower_now t.1) e h (owned_always start events h.begins) (arrives start events h.begins h.legal.1) (arrives start (e ∷ events) h.begins h.legal) in
       let whole : replay s g.more ≡ replay (fresh (me start) d) (g.more ++ past) = sym (replay_more (fresh (me start) d) g.more past) in (
         g.more ++ past,
         Goes e g.more t.1 g.legal g.follows (subst (Follower jobs log a start (e ∷ events)) whole (record { coupled = g.coupled; attempted = g.attempted })) g.adds

@@ -2,6 +2,7 @@
 use Rattle.std.proofs.Common.{◌≡◌, ℕ, suc, ◌⊎◌, List, [], ◌∷◌, Bool, true, false, not, ◌&&◌, cond, Option, Some, None, refl, sym, ◌∙◌, ap, subst, inl, inr}
 use Rattle.std.specs.Prelude.{◌==◌, is_some}
 use Rattle.std.proofs.lemmas.Bool.{eqb-true}
+use Rattle.knx_model.specs.declared.address.IndAddr.{IndAddr}
 use Rattle.knx_model.specs.declared.frames.cemi.Ldata.{Ldata}
 use Rattle.knx_model.specs.Connection.{frame_in}
 use Rattle.knx_model.specs.GoodPlan.{IsSendable}
@@ -29,10 +30,12 @@ use Rattle.tunnel_law.proofs.Took.{InvT}
 use Rattle.line_law.proofs.Queue.{is_its}
 use Rattle.line_law.proofs.Coupled.{IsOut, is_open, Coupled}
 use Rattle.line_law.proofs.Entries.{HeadView, still_kept, lost_kept}
-use Rattle.line_law.proofs.Entering.{last_of, counted_is, number_by, Brings, views_stay, UpPlace, up_place, Still, Turn, IsStill, IsLost, Joins, Puts, Takes}
+use Rattle.line_law.proofs.Entering.{last_of, own_of, counted_is, number_by, Brings, views_stay, UpPlace, up_place, Still, Turn, IsStill, IsLost, Joins, Puts, Takes}
 use Rattle.line_law.proofs.Turning.{turn}
 use Rattle.line_law.proofs.Joining.{joins_kept}
 use Rattle.line_law.proofs.Opened.{PutsSo, put_kept, is_free}
+use Rattle.tunnel_law.proofs.Inside.{Every}
+use Rattle.line_law.proofs.OwnAddress.{KnowsOwn, PutReaches, own_taken, taken_reaches}
 use Rattle.line_law.proofs.Takes.{take_kept}
 use Rattle.line_law.proofs.TakesAny.{client_told, TakesGoes}
 use Rattle.knx_model.specs.declared.connection.TransportFrame.{TransportFrame}
@@ -49,7 +52,7 @@ use Rattle.line_law.proofs.HeldJobs.{HeldJob, HeldPlan, AllAttempted, AttemptedO
 use Rattle.line_law.proofs.NothingAsked.{silent_follows}
 
 module _ (jobs : List Job) (turns : List GroupTurn) (log : List LogEntry) (a : ℕ) (w : World) (r : List Entry) (older : List Placed) (x : Entry) (at : ℕ) (s : SessionWorld) (same : entries older ≡ r) (kept : is_renewal x.what ≡ false) (h : HeadView r w.tunnel.present)
-    (inv : InvT (books (x ∷ r)) w.tunnel) (once : IsActedOnce w.tunnel.gateway (x ∷ r)) (named : s.device.address.raw ≡ a) (time : s.now ≡ x.now) (upto : AreUpto at (moments older)) (one : (p q : HeldJob jobs log a) → (p.job ≡ q.job) × (p.since ≡ q.since))
+    (inv : InvT (books (x ∷ r)) w.tunnel) (own : IndAddr) (knows : KnowsOwn own (channel r)) (reaches : Every (PutReaches own) w.tunnel.gateway.puts) (once : IsActedOnce w.tunnel.gateway (x ∷ r)) (named : s.device.address.raw ≡ a) (time : s.now ≡ x.now) (upto : AreUpto at (moments older)) (one : (p q : HeldJob jobs log a) → (p.job ≡ q.job) × (p.since ≡ q.since))
     (can : (p : HeldJob jobs log a) → IsSendable p.job.plan) (c : Coupled a w r s) (before : AllAttempted jobs log a (moments older) s.client) where
   abbrev Next : Type 0
   Next = EntryGoes jobs log a w (x ∷ r) (moments older) (record { what = deed (channel r) x; now = x.now; at = suc at }) s
@@ -58,8 +61,8 @@ module _ (jobs : List Job) (turns : List GroupTurn) (log : List LogEntry) (a : �
   views_same number none = views_stay r w.tunnel.present x h kept number none
 
   -- what came and went, as it counts
-  counted : (d : Deed) → traffic (channel r) x ≡ d → deed (channel r) x ≡ view.as_counted (last_of (channel r)) d
-  counted d e = counted_is (channel r) x ∙ ap (view.as_counted (last_of (channel r))) e
+  counted : (d : Deed) → traffic (channel r) x ≡ d → deed (channel r) x ≡ view.as_counted (own_of (channel r)) (last_of (channel r)) d
+  counted d e = counted_is (channel r) x ∙ ap (view.as_counted (own_of (channel r)) (last_of (channel r))) e
 
   no_deed : (d : Deed) → traffic (channel r) x ≡ d → (Brings d → ⊥) → Brings (traffic (channel r) x) → ⊥
   no_deed d e f q = f (subst Brings e q)
@@ -135,9 +138,10 @@ module _ (jobs : List Job) (turns : List GroupTurn) (log : List LogEntry) (a : �
 
   takes_next : (n : ℕ) (l : List Entry) (content : List ℕ) → channel r ≡ Open n l → channel (x ∷ r) ≡ Open n (x ∷ l) → traffic (channel r) x ≡ view.Takes content → (is_confirmation (ldata_in content) ≡ false → confirmed n (x ∷ l) ≡ confirmed n l) → last_frame n (x ∷ l) ≡ last_frame n l → Next
   takes_next n l content e k d stays last =
-      let t : TakesGoes a w (x ∷ r) s (last_frame n l) content = take_kept a w r x s n l content h (record { kept = kept; is_up = e; next = k; takes = d; stays = stays; last = last }) once.down c in
+      let t : TakesGoes a w (x ∷ r) s (view.own_address l) (last_frame n l) content = take_kept a w r x s n l content h (record { kept = kept; is_up = e; next = k; takes = d; stays = stays; last = last }) once.down
+      (λ k takes p. own_taken own (channel r) n l content e knows (taken_reaches own k takes content w.tunnel.gateway.puts reaches p)) c in
       let did : deed (channel r) x ≡ view.Takes content
-      = counted (view.Takes content) d ∙ ap (λ z. view.as_counted (last_of z) (view.Takes content)) e ∙ ap (λ b. cond {A = Deed} b (view.Takes content) view.Nothing) t.counts in
+      = counted (view.Takes content) d ∙ ap (λ z. view.as_counted (own_of z) (last_of z) (view.Takes content)) e ∙ ap (λ b. cond {A = Deed} b (view.Takes content) view.Nothing) t.counts in
       record {
         more = t.more;
         legal = t.legal;

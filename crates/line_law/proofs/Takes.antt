@@ -11,7 +11,7 @@ use Rattle.knx_model.specs.ClientConnection.{ClientEnd, Asked, Up, Asking, Await
 use Rattle.knx_model.specs.Connection.{frame_in}
 use Rattle.line_model.specs.ActedOnce.{in_channel, IsPrefix, IsChannelOf}
 use Rattle.line_model.specs.ChannelLost.{confirmed as is_confirmed, last_frame, is_confirmation, is_confirmation_of}
-use Rattle.line_model.specs.ClientView.{View, counts}
+use Rattle.line_model.specs.ClientView.{View, own_address, is_stray, counts}
 use Rattle.line_model.specs.Gateway.{Gateway}
 use Rattle.line_model.specs.Reading.{ldata_in, is_con, is_ind}
 use Rattle.line_model.specs.Record.{Entry}
@@ -66,7 +66,7 @@ not_confirmation o f e (inl k) = ap is_confirmation k ∙ ap is_con (own_ind f e
 not_confirmation o f e (inr k) = ap is_confirmation k
 
 module _ (a : ℕ) (w : World) (r : List Entry) (x : Entry) (s : SessionWorld) (c : ℕ) (l : List Entry) (content : List ℕ) (items : Items) (older : List (ℕ × List ℕ)) (base e : ℕ) (v : View) (flight : Flight) (h : HeadView r w.tunnel.present)
-    (p : TakesSo r x c l content) (q : CoupledBy a w r s items older (Since base e v flight)) (o : Oldest base items content) (own : IsOwn o.frame) where
+    (p : TakesSo r x c l content) (q : CoupledBy a w r s items older (Since base e v flight)) (o : Oldest base items content) (own : IsOwn o.frame) (reaches : is_stray (own_address l) (ldata_in content) ≡ false) where
   read_is : IsRead o.frame → (ldata_in content ≡ Some o.frame) ⊎ ((ldata_in content ≡ None) × (frame_in o.frame.tpdu ≡ Other))
   read_is (Read k) = inl (ap ldata_in (sym o.octets) ∙ k)
   read_is (Unread k i) = inr (ap ldata_in (sym o.octets) ∙ k, i)
@@ -82,8 +82,8 @@ module _ (a : ℕ) (w : World) (r : List Entry) (x : Entry) (s : SessionWorld) (
   flies_on =
       subst (λ y. OpenIs (is_confirmed c (x ∷ l)) y flight) (sym p.last) (subst (λ z. OpenIs z (last_frame c l) flight) (sym (p.stays (unconfirmed read))) (is_here a w r x s c l content items older base e v flight h p q).flies)
 
-  counted : counts (last_frame c l) (ldata_in content) ≡ true
-  counted = ap (λ b. not b || is_confirmation_of (last_frame c l) (ldata_in content)) (unconfirmed read)
+  counted : counts (own_address l) (last_frame c l) (ldata_in content) ≡ true
+  counted = ap (λ s. not s && (not (is_confirmation (ldata_in content)) || is_confirmation_of (last_frame c l) (ldata_in content))) reaches ∙ ap (λ b. not b || is_confirmation_of (last_frame c l) (ldata_in content)) (unconfirmed read)
 
   still_flies : FlightIs base w.tunnel.gateway (back o.newer w.tunnel.gateway.waiting) v.puts flight
   still_flies =
@@ -102,7 +102,7 @@ module _ (a : ℕ) (w : World) (r : List Entry) (x : Entry) (s : SessionWorld) (
       absurd (let bad : is_con Ind ≡ true = ap is_con (sym (own_ind o.frame own)) ∙ ap (λ (u : Ldata). is_con u.code) same ∙ b in cc)
   not_con (inr k) y f z b = absurd (let one : None ≡ Some f = sym k.0 ∙ z in cc)
 
-  own_taken : (b : Bool) → is_by a o.frame ≡ b → TakesGoes a w (x ∷ r) s (last_frame c l) content
+  own_taken : (b : Bool) → is_by a o.frame ≡ b → TakesGoes a w (x ∷ r) s (own_address l) (last_frame c l) content
   own_taken false k =
       record {
         more = [];
@@ -174,7 +174,7 @@ or_true true b h = refl
 or_true false b h = h
 
 module _ (a : ℕ) (w : World) (r : List Entry) (x : Entry) (s : SessionWorld) (c : ℕ) (l : List Entry) (content : List ℕ) (items : Items) (older : List (ℕ × List ℕ)) (base e : ℕ) (v : View) (flight : Flight) (h : HeadView r w.tunnel.present)
-    (p : TakesSo r x c l content) (q : CoupledBy a w r s items older (Since base e v flight)) (o : Oldest base items content) (con : is_con o.frame.code ≡ true) (reads : ldata_in (cemi_octets o.frame) ≡ Some o.frame) where
+    (p : TakesSo r x c l content) (q : CoupledBy a w r s items older (Since base e v flight)) (o : Oldest base items content) (con : is_con o.frame.code ≡ true) (reads : ldata_in (cemi_octets o.frame) ≡ Some o.frame) (reaches : is_stray (own_address l) (ldata_in content) ≡ false) where
   landing : ConTaken base w.tunnel.gateway (back o.newer w.tunnel.gateway.waiting) v.puts flight o.frame
   landing =
       con_landed base w.tunnel.gateway (back items w.tunnel.gateway.waiting) (back o.newer w.tunnel.gateway.waiting) v.puts flight o.frame
@@ -183,9 +183,10 @@ module _ (a : ℕ) (w : World) (r : List Entry) (x : Entry) (s : SessionWorld) (
   con_client : (b : Bool) → is_its a o.frame ≡ b → ◌≡◌ {A = Client} (if b then confirmed s.client o.frame.error s.now else s.client) (client_told a s.now s.client (ldata_in content))
   con_client b k = sym (ap (client_told a s.now s.client) (ap ldata_in (sym o.octets) ∙ reads) ∙ told_con a s.now s.client o.frame con b k)
 
-  counted_con : counts (last_frame c l) (ldata_in content) ≡ true
+  counted_con : counts (own_address l) (last_frame c l) (ldata_in content) ≡ true
   counted_con =
-      or_true (not (is_confirmation (ldata_in content))) (is_confirmation_of (last_frame c l) (ldata_in content))
+      ap (λ s. not s && (not (is_confirmation (ldata_in content)) || is_confirmation_of (last_frame c l) (ldata_in content))) reaches
+      ∙ or_true (not (is_confirmation (ldata_in content))) (is_confirmation_of (last_frame c l) (ldata_in content))
       (ap (is_confirmation_of (last_frame c l)) (ap ldata_in (sym o.octets) ∙ reads) ∙ landing.own (is_confirmed c l) (last_frame c l) (is_here a w r x s c l content items older base e v flight h p q).flies con)
 
   con_its : s.client.pending ≡ true → (f : Ldata) → ldata_in content ≡ Some f → is_con f.code ≡ true → is_its a f ≡ true
@@ -193,7 +194,7 @@ module _ (a : ℕ) (w : World) (r : List Entry) (x : Entry) (s : SessionWorld) (
       let same : o.frame ≡ f = (let one : Some o.frame ≡ Some f = sym (ap ldata_in (sym o.octets) ∙ reads) ∙ z in cc) in
       ap (is_its a) (sym same) ∙ landing.its a e v (q.pending (q.joined ∙ ap is_open p.is_up) y)
 
-  con_taken : (b : Bool) → is_its a o.frame ≡ b → TakesGoes a w (x ∷ r) s (last_frame c l) content
+  con_taken : (b : Bool) → is_its a o.frame ≡ b → TakesGoes a w (x ∷ r) s (own_address l) (last_frame c l) content
   con_taken false k =
       record {
         more = [];
@@ -223,17 +224,18 @@ module _ (a : ℕ) (w : World) (r : List Entry) (x : Entry) (s : SessionWorld) (
 -- ---- either
 
 take_first : (a : ℕ) (w : World) (r : List Entry) (x : Entry) (s : SessionWorld) (c : ℕ) (l : List Entry) (content : List ℕ) (items : Items) (older : List (ℕ × List ℕ)) (base e : ℕ) (v : View) (flight : Flight) (h : HeadView r w.tunnel.present)
-    (p : TakesSo r x c l content) (q : CoupledBy a w r s items older (Since base e v flight)) (o : Oldest base items content) → IsTold o.frame → TakesGoes a w (x ∷ r) s (last_frame c l) content
-take_first a w r x s c l content items older base e v flight h p q o (inl own) = own_taken a w r x s c l content items older base e v flight h p q o own (is_by a o.frame) refl
-take_first a w r x s c l content items older base e v flight h p q o (inr con) = con_taken a w r x s c l content items older base e v flight h p q o con.0 con.1 (is_its a o.frame) refl
+    (p : TakesSo r x c l content) (q : CoupledBy a w r s items older (Since base e v flight)) (o : Oldest base items content) → is_stray (own_address l) (ldata_in content) ≡ false → IsTold o.frame → TakesGoes a w (x ∷ r) s (own_address l) (last_frame c l) content
+take_first a w r x s c l content items older base e v flight h p q o reaches (inl own) = own_taken a w r x s c l content items older base e v flight h p q o own reaches (is_by a o.frame) refl
+take_first a w r x s c l content items older base e v flight h p q o reaches (inr con) = con_taken a w r x s c l content items older base e v flight h p q o con.0 con.1 reaches (is_its a o.frame) refl
 
 take_last : (a : ℕ) (w : World) (r : List Entry) (x : Entry) (s : SessionWorld) (c : ℕ) (l : List Entry) (content : List ℕ) (items : Items) (older : List (ℕ × List ℕ)) (last : Last) (h : HeadView r w.tunnel.present) (p : TakesSo r x c l content)
-    → ((k : ℕ) (n : View) → IsChannelOf w.tunnel.gateway (x ∷ r) k n → IsPrefix n.takes (in_channel k w.tunnel.gateway.puts)) → CoupledBy a w r s items older last → TakesGoes a w (x ∷ r) s (last_frame c l) content
-take_last a w r x s c l content items older Never h p down q = absurd (not_out r c l p.is_up q.pipe.last_is.out)
-take_last a w r x s c l content items older (Since base e v flight) h p down q =
-    let o : Oldest base items content = first a w r x s c l content items older base e v flight h p q (down base (record { number = Some c; puts = v.puts; takes = content ∷ v.takes }) (channel_at a w r x s c l content items older base e v flight h p q)) in
-    take_first a w r x s c l content items older base e v flight h p q o (told a w r x s c l content items older base e v flight h p q o).0
+    → ((k : ℕ) (n : View) → IsChannelOf w.tunnel.gateway (x ∷ r) k n → IsPrefix n.takes (in_channel k w.tunnel.gateway.puts)) → ((k : ℕ) (takes : List (List ℕ)) → IsPrefix (content ∷ takes) (in_channel k w.tunnel.gateway.puts) → is_stray (own_address l) (ldata_in content) ≡ false) → CoupledBy a w r s items older last → TakesGoes a w (x ∷ r) s (own_address l) (last_frame c l) content
+take_last a w r x s c l content items older Never h p down reaches q = absurd (not_out r c l p.is_up q.pipe.last_is.out)
+take_last a w r x s c l content items older (Since base e v flight) h p down reaches q =
+    let here : IsPrefix (content ∷ v.takes) (in_channel base w.tunnel.gateway.puts) = down base (record { number = Some c; puts = v.puts; takes = content ∷ v.takes }) (channel_at a w r x s c l content items older base e v flight h p q) in
+    let o : Oldest base items content = first a w r x s c l content items older base e v flight h p q here in
+    take_first a w r x s c l content items older base e v flight h p q o (reaches base v.takes here) (told a w r x s c l content items older base e v flight h p q o).0
 
 pub take_kept : (a : ℕ) (w : World) (r : List Entry) (x : Entry) (s : SessionWorld) (c : ℕ) (l : List Entry) (content : List ℕ) (h : HeadView r w.tunnel.present) → TakesSo r x c l content
-    → ((k : ℕ) (n : View) → IsChannelOf w.tunnel.gateway (x ∷ r) k n → IsPrefix n.takes (in_channel k w.tunnel.gateway.puts)) → Coupled a w r s → TakesGoes a w (x ∷ r) s (last_frame c l) content
-take_kept a w r x s c l content h p down q = take_last a w r x s c l content q.items q.older q.last h p down q.by
+    → ((k : ℕ) (n : View) → IsChannelOf w.tunnel.gateway (x ∷ r) k n → IsPrefix n.takes (in_channel k w.tunnel.gateway.puts)) → ((k : ℕ) (takes : List (List ℕ)) → IsPrefix (content ∷ takes) (in_channel k w.tunnel.gateway.puts) → is_stray (own_address l) (ldata_in content) ≡ false) → Coupled a w r s → TakesGoes a w (x ∷ r) s (own_address l) (last_frame c l) content
+take_kept a w r x s c l content h p down reaches q = take_last a w r x s c l content q.items q.older q.last h p down reaches q.by

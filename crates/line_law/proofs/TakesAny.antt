@@ -41,13 +41,13 @@ pub record TakesSo (r : List Entry) (x : Entry) (c : ℕ) (l : List Entry) (cont
   pub stays : is_confirmation (ldata_in content) ≡ false → is_confirmed c (x ∷ l) ≡ is_confirmed c l
   pub last : last_frame c (x ∷ l) ≡ last_frame c l
 
-pub record TakesGoes (a : ℕ) (w : World) (r : List Entry) (s : SessionWorld) (last : Option Ldata) (content : List ℕ) : Type 0 where
+pub record TakesGoes (a : ℕ) (w : World) (r : List Entry) (s : SessionWorld) (own : Option IndAddr) (last : Option Ldata) (content : List ℕ) : Type 0 where
   pub more : List SessionEvent
   pub legal : IsLegal s more
   pub silent : AsksNothing more
   pub coupled : Coupled a w r (replay s more)
   pub client : (replay s more).client ≡ client_told a s.now s.client (ldata_in content)
-  pub counts : view.counts last (ldata_in content) ≡ true
+  pub counts : view.counts own last (ldata_in content) ≡ true
   pub its : s.client.pending ≡ true → (f : Ldata) → ldata_in content ≡ Some f → is_con f.code ≡ true → is_its a f ≡ true
 
 -- ---- the rest is on its way then

@@ -18,7 +18,7 @@ use Rattle.line_model.specs.Record.{Item, Put, Renewed, Got, Quiet, Entry, entry
 use Rattle.line_model.specs.Renews.{RenewsRightly}
 use Rattle.line_model.specs.Tunnel.{Tunnel, sends_up, with_down}
 use Rattle.line_model.specs.World as line
-use Rattle.line_model.specs.World.{World, Event, now, step}
+use Rattle.line_model.specs.World.{World, Event, me, now, step}
 use Rattle.session_law.specs.World.{World as SessionWorld}
 use Rattle.session_law.specs.Events.{Event as SessionEvent, replay}
 use Rattle.session_law.specs.Events as event
@@ -40,6 +40,9 @@ use Rattle.line_law.proofs.Landing.{PutsSo as PutsAllowed}
 use Rattle.line_law.proofs.Telling.{still_attempt}
 use Rattle.line_law.proofs.Logs.{AreUpto, moments_upto, upto_more}
 use Rattle.line_law.proofs.Logs as logs
+use Rattle.tunnel_law.proofs.Inside.{Every}
+use Rattle.line_law.proofs.OwnAddress.{KnowsOwn, PutReaches}
+use Rattle.line_law.proofs.Arrivals.{Arrives}
 use Rattle.line_law.proofs.Stepping.{entry_next}
 use Rattle.line_law.proofs.HeldJobs.{HeldJob, HeldPlan, Attempted, AllAttempted, EntryGoes}
 use Rattle.line_law.proofs.RunsBefore.{IsRun, run_before, carried_none, heard_none}
@@ -95,10 +98,10 @@ module _ (jobs : List Job) (turns : List GroupTurn) (count : ℕ) (log : List Lo
   entered : (e : Event) (item : Item) (z : SessionWorld) (first : List SessionEvent) → replay s first ≡ z → event.IsLegal s first → Follows (HeldPlan jobs (log_before (suc (length events)) log) a) s first → AsksNothing first → z.client ≡ s.client → is_renewal item ≡ false
       → (step (line.replay start events) e).tunnel.present ≡ (line.replay start events).tunnel.present
       → (x : Entry) → x ≡ entry item (now (step (line.replay start events) e))
-      → z.device.address.raw ≡ a → InvT (books (record_of start events)) (line.replay start events).tunnel → InvT (books (x ∷ record_of start events)) (step (line.replay start events) e).tunnel → IsActedOnce (step (line.replay start events) e).tunnel.gateway (x ∷ record_of start events)
+      → z.device.address.raw ≡ a → InvT (books (record_of start events)) (line.replay start events).tunnel → InvT (books (x ∷ record_of start events)) (step (line.replay start events) e).tunnel → KnowsOwn (me start) (channel (record_of start events)) → Every (PutReaches (me start)) (step (line.replay start events) e).tunnel.gateway.puts → IsActedOnce (step (line.replay start events) e).tunnel.gateway (x ∷ record_of start events)
       → IsAsked jobs turns (log_before (suc (length events)) log) (placed start events) (record { at = suc (length events); what = x }) → Coupled a (step (line.replay start events) e) (record_of start events) z
       → StepBy jobs log a (length events) (step (line.replay start events) e) (x ∷ record_of start events) (moments (placed start events)) (record { at = suc (length events); what = x } ∷ placed start events) s
-  entered e item z first is legal follows silent client kept present x x_is named old inv once asks c =
+  entered e item z first is legal follows silent client kept present x x_is named old inv knows reaches once asks c =
       let r : List Entry = record_of start events in
       let older : List Placed = placed start events in
       let same : entries older ≡ r = entries_placed start events in
@@ -110,7 +113,7 @@ module _ (jobs : List Job) (turns : List GroupTurn) (count : ℕ) (log : List Lo
       let ask : IsRightDeed jobs turns (log_before (suc (length events)) log) older (record { what = deed (channel r) x; now = x.now; at = suc (length events) }) (deed (channel r) x)
       = subst (λ y. IsRightDeed jobs turns (log_before (suc (length events)) log) older (record { what = y; now = x.now; at = suc (length events) }) y) deed_is asks in
       let g : EntryGoes jobs (log_before (suc (length events)) log) a (step (line.replay start events) e) (x ∷ r) (moments older) (record { what = deed (channel r) x; now = x.now; at = suc (length events) }) z
-      = entry_next jobs turns (log_before (suc (length events)) log) a (step (line.replay start events) e) r older x (length events) z same no_renewal view_ inv once named time upto (one_job jobs turns count log form alone a (suc (length events)))
+      = entry_next jobs turns (log_before (suc (length events)) log) a (step (line.replay start events) e) r older x (length events) z same no_renewal view_ inv (me start) knows reaches once named time upto (one_job jobs turns count log form alone a (suc (length events)))
       (λ p. can p.number p.job p.there) c (λ p. subst (Attempted a (moments older) p.job p.since) (sym client) (f.attempted p)) ask in
       let whole : replay s (g.more ++ first) ≡ replay z g.more = replay_more g.more ∙ ap (λ y. replay y g.more) is in
       record {
@@ -159,15 +162,15 @@ module _ (jobs : List Job) (turns : List GroupTurn) (count : ℕ) (log : List Lo
 
   got_step : (age : ℕ) (o : Option Sent) → s.device.address.raw ≡ a → InvT (books (record_of start events)) (line.replay start events).tunnel
       → InvT (books (noted (got o) (now (step (line.replay start events) (Down age))) (record_of start events))) (step (line.replay start events) (Down age)).tunnel
-      → IsActedOnce (step (line.replay start events) (Down age)).tunnel.gateway (noted (got o) (now (step (line.replay start events) (Down age))) (record_of start events))
+      → KnowsOwn (me start) (channel (record_of start events)) → Every (PutReaches (me start)) (step (line.replay start events) (Down age)).tunnel.gateway.puts → IsActedOnce (step (line.replay start events) (Down age)).tunnel.gateway (noted (got o) (now (step (line.replay start events) (Down age))) (record_of start events))
       → EachAsked jobs turns log (placed_if (suc (length events)) (now (step (line.replay start events) (Down age))) (got o) (placed start events)) → OfSent (λ d. Unit {0}) o
       → StepBy jobs log a (length events) (step (line.replay start events) (Down age)) (noted (got o) (now (step (line.replay start events) (Down age))) (record_of start events)) (moments (placed start events))
       (placed_if (suc (length events)) (now (step (line.replay start events) (Down age))) (got o) (placed start events)) s
-  got_step age None named old inv once asks may = absurd may
-  got_step age (Some d) named old inv once asks may =
+  got_step age None named old inv knows reaches once asks may = absurd may
+  got_step age (Some d) named old inv knows reaches once asks may =
       let w1 : World = line.replay start events in
       let t1 : Tunnel = with_down w1.tunnel (changed_at age once_more w1.tunnel.network.down) in
-      entered (Down age) (Got (take 512 d.octets)) s [] refl tt tt tt refl refl (stays_present t1) (entry (Got (take 512 d.octets)) (now (step w1 (Down age)))) refl named old inv once asks.0
+      entered (Down age) (Got (take 512 d.octets)) s [] refl tt tt tt refl refl (stays_present t1) (entry (Got (take 512 d.octets)) (now (step w1 (Down age)))) refl named old inv knows reaches once asks.0
       (next_kept a (record { tunnel = t1; devices = w1.devices; echo = w1.echo }) (record_of start events) s (tunnel_kept a w1 (record_of start events) s t1 refl refl refl f.coupled))
 
   sent_only : (P : Sent → Type 0) (o : Option Sent) → OfSent P o → OfSent (λ d. Unit {0}) o
@@ -204,8 +207,8 @@ module _ (jobs : List Job) (turns : List GroupTurn) (count : ℕ) (log : List Lo
       here : (m : ℕ) → m ≤ m
       here m = omega arith
 
-  pub event_step : (e : Event) → IsRun jobs turns log start (e ∷ events) → Owned (line.replay start events) → StepBy jobs log a (length events) (step (line.replay start events) e) (record_of start (e ∷ events)) (moments (placed start events)) (placed start (e ∷ events)) s
-  event_step e run own = by_event e run (inv_always start events run.begins run.legal.1 before.renews before.sends) (inv_always start (e ∷ events) run.begins run.legal run.renews run.sends) run.once.0 where
+  pub event_step : (e : Event) → IsRun jobs turns log start (e ∷ events) → Owned (line.replay start events) → Arrives (me start) (line.replay start events) (record_of start events) → Arrives (me start) (step (line.replay start events) e) (record_of start (e ∷ events)) → StepBy jobs log a (length events) (step (line.replay start events) e) (record_of start (e ∷ events)) (moments (placed start events)) (placed start (e ∷ events)) s
+  event_step e run own old new = by_event e run (inv_always start events run.begins run.legal.1 before.renews before.sends) (inv_always start (e ∷ events) run.begins run.legal run.renews run.sends) new.tunnel.gateway.puts run.once.0 where
     before : IsRun jobs turns log start events
     before = run_before jobs turns log start e events run
 
@@ -222,29 +225,29 @@ module _ (jobs : List Job) (turns : List GroupTurn) (count : ℕ) (log : List Lo
     r = record_of start events
 
     by_event : (y : Event) → IsRun jobs turns log start (y ∷ events) → InvT (books (record_of start events)) (line.replay start events).tunnel → InvT (books (record_of start (y ∷ events))) (step (line.replay start events) y).tunnel
-        → IsActedOnce (step (line.replay start events) y).tunnel.gateway (record_of start (y ∷ events)) → StepBy jobs log a (length events) (step (line.replay start events) y) (record_of start (y ∷ events)) (moments (placed start events)) (placed start (y ∷ events)) s
-    by_event (Send octets) h i k once =
-        entered (Send octets) (Put octets) s [] refl tt tt tt refl refl (stays_present (sends_up w1.tunnel w1.tunnel.present octets)) (entry (Put octets) (now (step w1 (Send octets)))) refl named i k once h.asks.0
+        → Every (PutReaches (me start)) (step (line.replay start events) y).tunnel.gateway.puts → IsActedOnce (step (line.replay start events) y).tunnel.gateway (record_of start (y ∷ events)) → StepBy jobs log a (length events) (step (line.replay start events) y) (record_of start (y ∷ events)) (moments (placed start events)) (placed start (y ∷ events)) s
+    by_event (Send octets) h i k reaches once =
+        entered (Send octets) (Put octets) s [] refl tt tt tt refl refl (stays_present (sends_up w1.tunnel w1.tunnel.present octets)) (entry (Put octets) (now (step w1 (Send octets)))) refl named i k old.knows reaches once h.asks.0
         (next_kept a (record { tunnel = sends_up w1.tunnel w1.tunnel.present octets; devices = w1.devices; echo = w1.echo }) r s (tunnel_kept a w1 r s (sends_up w1.tunnel w1.tunnel.present octets) refl refl refl c))
-    by_event (From endpoint octets) h i k once = absurd h.legal.0.tunnel
-    by_event Renew h i k once = renew_step h i
-    by_event (Up age) h i k once = quiet (Up age) (tunnels.up_kept a w1 r s age c i (inv_after w1 r (Up age) (now (step w1 (Up age))) i h.legal.0 h.renews h.sends) (once_after (after_world w1 (Up age)).tunnel r once))
-    by_event (UpRefused age status) h i k once = quiet (UpRefused age status) (tunnels.refused_kept a w1 r s age status c)
-    by_event (Down age) h i k once = got_step age (slice_get w1.tunnel.network.down age) named i k once h.asks (sent_only _ (slice_get w1.tunnel.network.down age) h.legal.0.tunnel)
-    by_event (LoseUp age) h i k once = quiet (LoseUp age) (tunnels.lost_up_kept a w1 r s age c)
-    by_event (LoseDown age) h i k once = quiet (LoseDown age) (tunnels.lost_down_kept a w1 r s age c)
-    by_event (Bus left_out) h i k once = unentered (Bus left_out) (carried_none w1 left_out (next_frame w1)) (bus_kept a w1 r s left_out named c h.legal.0.devices)
-    by_event (BusTorn fresh_ octets) h i k once = unentered (BusTorn fresh_ octets) (carried_none w1 [] (next_frame w1)) (torn_kept a w1 r s fresh_ octets named c h.legal.0.devices)
-    by_event (BusWorn octets) h i k once = unentered (BusWorn octets) (carried_none w1 [] (next_frame w1)) (worn_kept a w1 r s octets named c h.legal.0.devices)
-    by_event (BusAgain device) h i k once = quiet (BusAgain device) (changes.again_kept a w1 r s device (a == device) refl c)
-    by_event (DevSend device gateway left_out) h i k once = unentered (DevSend device gateway left_out) (heard_none gateway w1 (waiting_at w1 device)) (devices.sends_kept a w1 r s device gateway left_out (a == device) refl own c)
-    by_event (DevRepeat device gateway) h i k once = unentered (DevRepeat device gateway) (heard_none gateway w1 (repeat_at w1 device)) (devices.repeats_kept a w1 r s device gateway (a == device) refl own h.legal.0.devices c)
-    by_event (DevClose device) h i k once = quiet (DevClose device) (changes.close_kept a w1 r s device (a == device) refl c)
-    by_event GwAgain h i k once = unentered GwAgain (heard_none Comes w1 w1.echo) (changes.echo_kept a w1 r s own c)
-    by_event GwRepeat h i k once = quiet GwRepeat (tunnels.again_kept a w1 r s c)
-    by_event GwClose h i k once = quiet GwClose (tunnels.closes_kept a w1 r s c)
-    by_event (Cut device) h i k once = quiet (Cut device) (changes.cut_kept a w1 r s device (a == device) refl c)
-    by_event (On device) h i k once = quiet (On device) (changes.on_kept a w1 r s device (a == device) refl c)
-    by_event (Pass ms) h i k once =
-        entered (Pass ms) Quiet (event.step s (event.Pass ms)) (event.Pass ms ∷ []) refl (tt, tt) (tt, tt) (tt, tt) refl refl (stays_present (later_world w1 ms).tunnel) (entry Quiet (now (step w1 (Pass ms)))) refl named i k once h.asks.0
+    by_event (From endpoint octets) h i k reaches once = absurd h.legal.0.tunnel
+    by_event Renew h i k reaches once = renew_step h i
+    by_event (Up age) h i k reaches once = quiet (Up age) (tunnels.up_kept a w1 r s age c i (inv_after w1 r (Up age) (now (step w1 (Up age))) i h.legal.0 h.renews h.sends) (once_after (after_world w1 (Up age)).tunnel r once))
+    by_event (UpRefused age status) h i k reaches once = quiet (UpRefused age status) (tunnels.refused_kept a w1 r s age status c)
+    by_event (Down age) h i k reaches once = got_step age (slice_get w1.tunnel.network.down age) named i k old.knows reaches once h.asks (sent_only _ (slice_get w1.tunnel.network.down age) h.legal.0.tunnel)
+    by_event (LoseUp age) h i k reaches once = quiet (LoseUp age) (tunnels.lost_up_kept a w1 r s age c)
+    by_event (LoseDown age) h i k reaches once = quiet (LoseDown age) (tunnels.lost_down_kept a w1 r s age c)
+    by_event (Bus left_out) h i k reaches once = unentered (Bus left_out) (carried_none w1 left_out (next_frame w1)) (bus_kept a w1 r s left_out named c h.legal.0.devices)
+    by_event (BusTorn fresh_ octets) h i k reaches once = unentered (BusTorn fresh_ octets) (carried_none w1 [] (next_frame w1)) (torn_kept a w1 r s fresh_ octets named c h.legal.0.devices)
+    by_event (BusWorn octets) h i k reaches once = unentered (BusWorn octets) (carried_none w1 [] (next_frame w1)) (worn_kept a w1 r s octets named c h.legal.0.devices)
+    by_event (BusAgain device) h i k reaches once = quiet (BusAgain device) (changes.again_kept a w1 r s device (a == device) refl c)
+    by_event (DevSend device gateway left_out) h i k reaches once = unentered (DevSend device gateway left_out) (heard_none gateway w1 (waiting_at w1 device)) (devices.sends_kept a w1 r s device gateway left_out (a == device) refl own c)
+    by_event (DevRepeat device gateway) h i k reaches once = unentered (DevRepeat device gateway) (heard_none gateway w1 (repeat_at w1 device)) (devices.repeats_kept a w1 r s device gateway (a == device) refl own h.legal.0.devices c)
+    by_event (DevClose device) h i k reaches once = quiet (DevClose device) (changes.close_kept a w1 r s device (a == device) refl c)
+    by_event GwAgain h i k reaches once = unentered GwAgain (heard_none Comes w1 w1.echo) (changes.echo_kept a w1 r s own c)
+    by_event GwRepeat h i k reaches once = quiet GwRepeat (tunnels.again_kept a w1 r s c)
+    by_event GwClose h i k reaches once = quiet GwClose (tunnels.closes_kept a w1 r s c)
+    by_event (Cut device) h i k reaches once = quiet (Cut device) (changes.cut_kept a w1 r s device (a == device) refl c)
+    by_event (On device) h i k reaches once = quiet (On device) (changes.on_kept a w1 r s device (a == device) refl c)
+    by_event (Pass ms) h i k reaches once =
+        entered (Pass ms) Quiet (event.step s (event.Pass ms)) (event.Pass ms ∷ []) refl (tt, tt) (tt, tt) (tt, tt) refl refl (stays_present (later_world w1 ms).tunnel) (entry Quiet (now (step w1 (Pass ms)))) refl named i k old.knows reaches once h.asks.0
         (next_kept a (later_world w1 ms) r (event.step s (event.Pass ms)) (pass_kept a w1 r s ms c))

@@ -1,6 +1,6 @@
 -- Runs in which something is lost, comes twice, is torn or worn, or ends: they are legal, they follow their script where it says so, and
 -- what is told of them is true.
-use Rattle.std.proofs.Common.{◌≡◌, ◌<◌, arith, ℕ, List, [], ◌∷◌, Some, true, false, inr, refl}
+use Rattle.std.proofs.Common.{◌≡◌, ◌⊎◌, ◌<◌, arith, ℕ, List, [], ◌∷◌, Some, true, false, inl, inr, refl}
 use Rattle.knx_model.specs.declared.frames.cemi.LdataCode.TheVariants.{Con}
 use Rattle.knx_model.specs.declared.script.ScriptWhat.TheVariants.{LoseDown, LoseTo, RepeatUp, RepeatTo, Cut, Worn}
 use Rattle.knx_model.specs.ApduReading.{option_map, apdu_in, tpdu_in, service_in}
@@ -20,10 +20,10 @@ use Rattle.line_model.specs.Moments.{Moment, moments, between}
 use Rattle.line_model.specs.Reading.{datagram_in, ldata_in}
 use Rattle.line_model.specs.Record.{Entry, placed, entries}
 use Rattle.line_model.specs.Renews.{RenewsRightly}
-use Rattle.line_model.specs.Runs.{device, begin, job, reading, unheard, told_failed, turn, telegram, nobody, telegram_sent, told_sent, unloads, torn, filling, writes, worn, response_lost, comes_twice, second, quiet_until, to_device, acknowledged, heard_again, t_ack_heard}
+use Rattle.line_model.specs.Runs.{device, begin, job, reading, unheard, told_failed, turn, telegram, nobody, telegram_sent, told_sent, unloads, cut_off, torn, filling, writes, worn, response_lost, comes_twice, second, quiet_until, to_device, acknowledged, heard_again, t_ack_heard}
 use Rattle.line_model.specs.Told.{ToldTruly}
 use Rattle.line_model.specs.Tunnel.{Commissions}
-use Rattle.line_model.specs.World.{Up, replay}
+use Rattle.line_model.specs.World.{On, Renew, Up, replay}
 use Rattle.line_model.proofs.Passes.{legal_by}
 
 -- ---- three attempts, each confirmed with error
@@ -82,6 +82,15 @@ torn_legal kept = (record { tunnel = tt; devices = λ e. cc }, (record { tunnel 
 pub torn_follows : (kept : NonVolatile) → Follows (Cut device 1 1 ∷ []) Commissions (begin kept) torn
 unfolding datagram_in ldata_in gateway_took frame_in device_took device_after device_answered after_answer apdu_in tpdu_in service_in
 torn_follows kept = (inr refl, (refl, (record { next = record { next = refl; says = refl }; so = refl }, (tt, (record { next = record { next = refl; says = refl }; so = refl }, (tt, (record { next = refl; says = refl }, (record { next = refl; says = refl }, (refl, (record { next = record { next = refl; says = refl }; so = refl }, (tt, (record { next = refl; says = refl }, (record { next = record { next = refl; says = refl }; so = refl }, (tt, (tt, tt)))))))))))))))
+
+-- nothing that the client does comes between
+pub power_first : (kept : NonVolatile) → ¬ Follows (Cut device 1 1 ∷ []) Commissions (begin kept) (Renew ∷ cut_off)
+unfolding datagram_in ldata_in gateway_took frame_in device_took device_after device_answered after_answer apdu_in tpdu_in service_in
+power_first kept f = neither f.0
+  where
+    neither : (false ≡ true) ⊎ (Renew ≡ On device.raw) → ⊥
+    neither (inl e) = cc
+    neither (inr e) = cc
 
 -- ---- a write over worn memory
 

@@ -19,3 +19,5 @@ pub mod Deadlines
 pub mod UnderWay
 pub mod Entries
 pub mod Moments
+pub mod Strays
+pub mod Counted

@@ -2,8 +2,9 @@
 -- it got there, and which requests of the gateway were delivered in it. The channel of an endpoint is that of the first connect response
 -- which was got there after the connect request was sent there, where its status is 0 and fewer than 10,000 ms had passed since; no other
 -- response opens one. It lasts until it is lost.
-use Rattle.std.specs.Prelude.{ℕ, List, [], ◌∷◌, Bool, not, ◌&&◌, ◌||◌, ◌==◌, if◌then◌else◌, Option, Some, None}
+use Rattle.std.specs.Prelude.{ℕ, List, [], ◌∷◌, Bool, false, not, ◌&&◌, ◌||◌, ◌==◌, if◌then◌else◌, Option, Some, None}
 use Rattle.std.specs.List.{filter_map}
+use Rattle.knx_model.specs.declared.address.IndAddr.{IndAddr}
 use Rattle.knx_model.specs.declared.frames.cemi.Ldata.{Ldata}
 use Rattle.knx_model.specs.declared.frames.ip.IpFrame.{IpFrame}
 use Rattle.knx_model.specs.declared.frames.ip.IpFrame.TheVariants.{ConnectResponse}
@@ -12,7 +13,7 @@ use Rattle.knx_model.specs.ApduReading.{service_in}
 use Rattle.knx_model.specs.Connection.{has_passed}
 use Rattle.knx_model.specs.DeviceFrames.{group_service}
 use Rattle.line_model.specs.declared.group.Indication.{Indication}
-use Rattle.line_model.specs.Reading.{ldata_in, is_ind, is_connect_request, RequestFrame, request_in}
+use Rattle.line_model.specs.Reading.{ldata_in, is_ind, is_connect_request, tunnel_told, RequestFrame, request_in}
 use Rattle.line_model.specs.Record.{Entry, put_in, got_in, is_renewal, is_poll}
 use Rattle.line_model.specs.ChannelLost.{answer_wait, delivers, expected, is_new_request, last_frame, is_confirmation, is_confirmation_of, is_lost}
 
@@ -83,19 +84,34 @@ unfoldable pub traffic : ClientChannel → Entry → Deed
 traffic (Open c l) x = if is_lost c l x then Loses else deed_in c l x
 traffic _ x = Nothing
 
--- ---- the same, as far as it counts: a confirmation that isn't that of the request put last is nothing
+-- ---- the same, as far as it counts: a confirmation that isn't that of the request put last is nothing, and so is an indication to one device
+-- whose destination isn't the tunnel's own address
 
-abbrev pub counts : Option Ldata → Option Ldata → Bool
-counts last taken = not (is_confirmation taken) || is_confirmation_of last taken
+-- the tunnel's own address: the one that the channel's connect response told
+abbrev pub own_address : List Entry → Option IndAddr
+own_address [] = None
+own_address (x ∷ []) = tunnel_told (got_in x.what)
+own_address (x ∷ y ∷ l) = own_address (y ∷ l)
 
-abbrev pub as_counted : Option Ldata → Deed → Deed
-as_counted last (Puts frame) = Puts frame
-as_counted last (Takes frame) = if counts last (ldata_in frame) then Takes frame else Nothing
-as_counted last Loses = Loses
-as_counted last Nothing = Nothing
+abbrev pub is_to : Option IndAddr → Ldata → Bool
+is_to None frame = false
+is_to (Some own) frame = frame.destination == own.raw
+
+abbrev pub is_stray : Option IndAddr → Option Ldata → Bool
+is_stray own None = false
+is_stray own (Some frame) = is_ind frame.code && not frame.group && not (is_to own frame)
+
+abbrev pub counts : Option IndAddr → Option Ldata → Option Ldata → Bool
+counts own last taken = not (is_stray own taken) && (not (is_confirmation taken) || is_confirmation_of last taken)
+
+abbrev pub as_counted : Option IndAddr → Option Ldata → Deed → Deed
+as_counted own last (Puts frame) = Puts frame
+as_counted own last (Takes frame) = if counts own last (ldata_in frame) then Takes frame else Nothing
+as_counted own last Loses = Loses
+as_counted own last Nothing = Nothing
 
 unfoldable pub deed : ClientChannel → Entry → Deed
-deed (Open c l) x = if is_lost c l x then Loses else as_counted (last_frame c l) (deed_in c l x)
+deed (Open c l) x = if is_lost c l x then Loses else as_counted (own_address l) (last_frame c l) (deed_in c l x)
 deed _ x = Nothing
 
 -- ---- each endpoint's channel, what was put in it and what was taken in it, all the newest first; endpoints are numbered from 0

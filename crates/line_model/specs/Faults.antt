@@ -4,14 +4,12 @@
 use Rattle.std.specs.Prelude.{◌≡◌, ℕ, suc, ◌<◌, ◌/◌, Bool, false, not, ◌&&◌, ◌==◌, List, [], ◌∷◌, length, reverse, if◌then◌else◌, Option, Some, None}
 use Rattle.std.specs.List.{find}
 use Rattle.knx_model.specs.declared.address.IndAddr.{IndAddr}
-use Rattle.knx_model.specs.declared.frames.ip.IpFrame.{IpFrame}
-use Rattle.knx_model.specs.declared.frames.ip.IpFrame.TheVariants.{ConnectResponse}
 use Rattle.line_model.specs.declared.fault.HubFault.{HubFault}
 use Rattle.line_model.specs.declared.fault.HubFault.TheVariants.{NoMemory, LinkFailed, GatewayRefused, Flooded, WrongLine}
 use Rattle.line_model.specs.declared.fault.Try.{Try}
 use Rattle.line_model.specs.declared.fault.Try.TheVariants.{Status, NoAnswer}
 use Rattle.line_model.specs.declared.log.LogEntry.{LogEntry}
-use Rattle.line_model.specs.Reading.{state_response_in}
+use Rattle.line_model.specs.Reading.{state_response_in, tunnel_told}
 use Rattle.line_model.specs.Record.{Entry, got_in, is_got}
 use Rattle.line_model.specs.ChannelLost.{answers_beat, beats, has_lapsed}
 use Rattle.line_model.specs.ClientView.{ClientChannel, Sought, RefusedBy, Unanswered, Open, channel}
@@ -52,10 +50,6 @@ flood = 16777216
 
 -- ---- the tunnel's address that the first channel's response told
 
-abbrev pub tunnel_told : Option IpFrame → Option IndAddr
-tunnel_told (Some (ConnectResponse c status tunnel)) = tunnel
-tunnel_told _ = None
-
 abbrev pub opens : ClientChannel → ClientChannel → Entry → Option IndAddr
 opens (Sought since) (Open c l) x = tunnel_told (got_in x.what)
 opens _ _ x = None
@@ -94,7 +88,7 @@ pub record HasNoCause (jobs : List Job) (log : List LogEntry) (r : List Entry) :
   pub no_flood : JobUnfinished jobs log → datagrams_taken r < flood
   pub right_line : first_elsewhere jobs (first_tunnel r) ≡ None
 
--- a fault of the link comes only where its count of faults rose, which the link's own calls say
+-- a fault of the link, or want of its memory, comes only where its count of that rose, which the link's own calls say
 abbrev pub HasCause : List Job → List LogEntry → List Entry → HubFault → Type 0
 HasCause jobs log r (NoMemory want) = Unit {0}
 HasCause jobs log r LinkFailed = Unit {0}

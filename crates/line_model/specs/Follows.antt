@@ -1,7 +1,7 @@
 -- When events follow a script (this project's own): each line whose number is reached has its event at that place, and there is no other
 -- disturbance. Every datagram is otherwise delivered once, in order, while the network allows it; a device or the gateway repeats and closes
 -- exactly when its wait has passed; and time passes only where the world is settled, never beyond the next such time.
-use Rattle.std.specs.Prelude.{◌≡◌, ◌⊎◌, ℕ, suc, Bool, true, false, List, [], ◌∷◌, Some}
+use Rattle.std.specs.Prelude.{◌≡◌, ◌⊎◌, ℕ, suc, Bool, true, false, ◌&&◌, List, [], ◌∷◌, Some}
 use Rattle.knx_model.specs.declared.device.Sending.{Sending}
 use Rattle.knx_model.specs.declared.device.Sending.TheVariants as sending
 use Rattle.knx_model.specs.DeviceSending.{next_sending}
@@ -14,7 +14,7 @@ use Rattle.line_model.specs.Fresh.{SettledFor}
 use Rattle.line_model.specs.Counts.{frames_from, number_at}
 use Rattle.line_model.specs.Lines.{Script, loses_up, loses_down, loses_from}
 use Rattle.line_model.specs.Deliveries.{next_up, next_down, delivery, carriage}
-use Rattle.line_model.specs.Owed.{Owed, owed, met, is_clients}
+use Rattle.line_model.specs.Owed.{Owed, owed, met, is_clients, waits}
 
 -- ---- datagrams
 
@@ -84,11 +84,11 @@ IsInPlace script mode start past (Cut device) = ⊥
 IsInPlace script mode start past (On device) = ⊥
 IsInPlace script mode start past (Pass ms) = SettledFor mode (replay start past) ms
 
--- ---- what is owed comes first, but for what the client itself does
+-- ---- what is owed comes first, but for what the client itself does; and power returns at once
 
 abbrev pub IsNext : Script → Mode → World → List Event → List Owed → Event → Type 0
 IsNext script mode start past [] e = IsInPlace script mode start past e
-IsNext script mode start past (what ∷ rest) e = (is_clients e ≡ true) ⊎ (e ≡ met script start past what)
+IsNext script mode start past (what ∷ rest) e = ((waits what && is_clients e) ≡ true) ⊎ (e ≡ met script start past what)
 
 abbrev pub Follows : Script → Mode → World → List Event → Type 0
 Follows script mode start [] = Unit {0}

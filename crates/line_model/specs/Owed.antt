@@ -1,7 +1,7 @@
 -- What the lines of a script call for directly after an event: a second delivery, power that returns, a connection or the channel that closes. It
--- comes before anything else but what the client itself does. What isn't possible any more isn't called for: a second delivery of a datagram to an
--- endpoint that was left, or of a frame to a device that no longer keeps one as the last that it got, or the closing of a connection by a device that
--- has none.
+-- comes before anything else but what the client itself does, and power returns before that too. What isn't possible any more isn't called for: a
+-- second delivery of a datagram to an endpoint that was left, or of a frame to a device that no longer keeps one as the last that it got, or the
+-- closing of a connection by a device that has none.
 use Rattle.std.specs.Prelude.{ℕ, Bool, true, false, ◌&&◌, ◌==◌, nat_lt, is_some, List, [], ◌∷◌, ◌++◌, drop, if◌then◌else◌, Option, Some, None, slice_get}
 use Rattle.std.specs.List.{filter}
 use Rattle.knx_model.specs.declared.frames.cemi.Ldata.{Ldata}
@@ -94,12 +94,17 @@ is_possible mode w ChannelCloses = true
 
 -- ---- what is owed after all these events: the first one first
 
--- what the client does itself meets nothing, and may come between
+-- what the client does itself meets nothing
 abbrev pub is_clients : Event → Bool
 is_clients (Send octets) = true
 is_clients (From endpoint octets) = true
 is_clients Renew = true
 is_clients _ = false
+
+-- and may come between, but not between a torn write and the return of power
+abbrev pub waits : Owed → Bool
+waits (PowerReturns device) = false
+waits _ = true
 
 abbrev pub left_after : Event → List Owed → List Owed
 left_after e owed = if is_clients e then owed else drop 1 owed

@@ -2,6 +2,7 @@
 -- request's octets are (KNX standard 3/6/3, common EMI), as functions: the grammar of the relations `Reads` of `KnxNetIp` and of `Cemi`, row
 -- by row. So what gateway and client make of a datagram is a function too. Laws of this crate say that each function is its relation.
 use Rattle.std.specs.Prelude.{ℕ, ◌+◌, ◌/◌, ◌%◌, Bool, true, false, ◌&&◌, ◌||◌, ◌==◌, nat_le, List, length, drop, slice_index, Option, Some, None, if◌then◌else◌}
+use Rattle.knx_model.specs.declared.address.IndAddr.{IndAddr}
 use Rattle.knx_model.specs.declared.frames.cemi.Ldata.{Ldata}
 use Rattle.knx_model.specs.declared.frames.cemi.LdataCode.{LdataCode}
 use Rattle.knx_model.specs.declared.frames.cemi.LdataCode.TheVariants.{Req, Con, Ind}
@@ -64,6 +65,11 @@ datagram_in octets = if has_header octets then body_in (word_at octets 2) (drop 
 abbrev pub is_connect_request : Option IpFrame → Bool
 is_connect_request (Some ConnectRequest) = true
 is_connect_request _ = false
+
+-- the tunnel's address that a connect response tells
+abbrev pub tunnel_told : Option IpFrame → Option IndAddr
+tunnel_told (Some (ConnectResponse channel status tunnel)) = tunnel
+tunnel_told _ = None
 
 -- a tunnelling request: its channel, its number and its cEMI octets
 pub record RequestFrame : Type 0 where

@@ -161,8 +161,11 @@ told_sent = record { at = 11; worker = 0; what = Sent 1 } ∷ []
 abbrev pub unloads : List Event
 unloads = Up 0 ∷ tunnelled 1 1 (0x43 ∷ 0xD7 ∷ 4 ∷ 5 ∷ 0x10 ∷ 1 ∷ 4 ∷ 0 ∷ 0 ∷ 0 ∷ 0 ∷ 0 ∷ 0 ∷ 0 ∷ 0 ∷ 0 ∷ []) ∷ connected
 
+abbrev pub cut_off : List Event
+cut_off = BusTorn true [] ∷ unloads
+
 abbrev pub torn : List Event
-torn = On 0x1105 ∷ BusTorn true [] ∷ unloads
+torn = On 0x1105 ∷ cut_off
 
 -- a device whose application is being loaded, with two octets
 abbrev pub unloaded : Loadable

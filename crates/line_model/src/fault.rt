@@ -14,9 +14,9 @@ pub enum Try {
 /// Why a run ends without its end.
 #[derive(Clone, Copy, Drop)]
 pub enum HubFault {
-    /// There was no memory.
+    /// There was no memory: none for the run, or the link's count of such answers rose.
     NoMemory(NoMemory),
-    /// The link's count of faults rose.
+    /// The link's count of failed calls rose.
     LinkFailed,
     /// Three tries in turn to get a channel failed, the first one first.
     GatewayRefused([Try; 3]),

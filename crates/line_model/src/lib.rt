@@ -24,8 +24,8 @@ pub use laws::{
 };
 pub use log::{LogEntry, LogWhat, Report};
 pub use outside::{
-    DialFailed, Dialer, Gate, JobProgress, Link, LinkFault, Open, Polled, Port, PortFault,
-    PortPolled, Watcher,
+    DialFailed, Dialer, Gate, JobProgress, Link, LinkCounts, LinkFault, Open, Polled, Port,
+    PortFault, PortPolled, Watcher,
 };
 pub use poll_wait::{LONGEST_POLL_MS, until};
 pub use put_refused::PutRefused;

@@ -16,12 +16,12 @@ ghost use Rattle.line_model.specs.Moments.{moments, between};
 ghost use Rattle.line_model.specs.OldStoppedOrNew.{RunsWhereDone};
 ghost use Rattle.line_model.specs.Record.{Entry, placed, entries, record_of};
 ghost use Rattle.line_model.specs.Renews.{RenewsRightly};
-ghost use Rattle.line_model.specs.Runs.{device, begin, connecting, connected, whole, job, other_job, reading, nearly, load, loads, told_taken, told_done, told_refused, unheard, told_failed, nobody, turn, telegram_sent, told_sent, torn, filling, worn, response_lost, comes_twice, second, quiet_until, to_device, request_lost, try_refused, response_twice, confirmation_twice, channel_dropped, connection_closed, answer_lost, acknowledged, heard_again, t_ack_heard, quiet_minute, beat_answered};
+ghost use Rattle.line_model.specs.Runs.{device, begin, connecting, connected, whole, job, other_job, reading, nearly, load, loads, told_taken, told_done, told_refused, unheard, told_failed, nobody, turn, telegram_sent, told_sent, cut_off, torn, filling, worn, response_lost, comes_twice, second, quiet_until, to_device, request_lost, try_refused, response_twice, confirmation_twice, channel_dropped, connection_closed, answer_lost, acknowledged, heard_again, t_ack_heard, quiet_minute, beat_answered};
 ghost use Rattle.line_model.specs.Sendings.{SendsRightly};
 ghost use Rattle.line_model.specs.Told.{ToldTruly};
 ghost use Rattle.line_model.specs.Tunnel.{Commissions};
 ghost use Rattle.line_model.specs.Waiting.{TurnWaits, PollsSo};
-ghost use Rattle.line_model.specs.World.{Up, replay};
+ghost use Rattle.line_model.specs.World.{Renew, Up, replay};
 
 /// A line with one device, whatever that keeps in its memories, is a fresh start, and settled.
 pub fn a_line_begins()
@@ -68,11 +68,12 @@ pub fn a_telegram_is_sent()
     ensures told { ToldTruly [] (turn ∷ []) (placed nobody telegram_sent) told_sent }
 {}
 
-/// A write in which power goes, and one over worn memory: each is legal, and is just what the script's line says. Of the octets 01 and 02 worn memory
-/// keeps FE and FD.
+/// A write in which power goes, and one over worn memory: each is legal, and is just what the script's line says; nothing that the client does comes
+/// before power returns. Of the octets 01 and 02 worn memory keeps FE and FD.
 pub fn writes_are_torn_and_worn()
     ensures torn { (kept : NonVolatile) → IsLegal Commissions (begin kept) torn }
     ensures cut { (kept : NonVolatile) → Follows (Cut device 1 1 ∷ []) Commissions (begin kept) torn }
+    ensures at_once { (kept : NonVolatile) → ¬ Follows (Cut device 1 1 ∷ []) Commissions (begin kept) (Renew ∷ cut_off) }
     ensures worn { IsLegal Commissions (begin filling) worn }
     ensures changed { Follows (Worn device 1 ∷ []) Commissions (begin filling) worn }
     ensures complements { option_map (λ (d : DeviceState). d.kept.application.memory) ((replay (begin filling) worn).devices 0x1105) ≡ Some (254 ∷ 253 ∷ []) }

@@ -183,7 +183,7 @@ fn a_link_fails_where_it_is_told_to(rt: HostRuntime) -> Result<(), Fail> {
     assert_eq!(rt; link_differs(&mut link, &rows), None);
     assert_eq!(rt; link.now(), 10);
     assert_eq!(rt; link.at(), 4);
-    assert_eq!(rt; link.faults, 4);
+    assert_eq!(rt; link.faults.failed, 4);
     Ok(())
 }
 
@@ -198,7 +198,7 @@ fn one_call_is_not_passed_on(rt: HostRuntime) -> Result<(), Fail> {
         (Call::Renew, Answer::Done),
     ];
     assert_eq!(rt; link_differs(&mut link, &rows), None);
-    assert_eq!(rt; link.faults, 2);
+    assert_eq!(rt; link.faults.failed, 2);
     assert_eq!(rt; link.link.calls, 4);
     assert_eq!(rt; link.at(), 3);
     Ok(())

@@ -1,4 +1,3 @@
-pub mod Causes
 pub mod Closed
 pub mod Missing
 pub mod Hearing

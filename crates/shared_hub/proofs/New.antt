@@ -15,14 +15,13 @@ use Rattle.line_model.specs.Log.{Job, IsLog, OneDownloaderPerDevice, TakenInOrde
 use Rattle.line_model.specs.Record.{Placed, entries, placed, counted}
 use Rattle.line_law.specs.Safe.{IsSafe, KeepsSafe, EverySafeInterleaving}
 use Rattle.hub_work.specs.Downloaders.{Task}
-use Rattle.hub_core.specs.Commissioned.{TellsRun, log_of}
+use Rattle.hub_core.specs.Commissioned.{IsNoMemory, TellsRun, log_of}
 use Rattle.hub_core.specs.Promises.{FaultRightIn, HastensIn, IsRightOver, IsSafeOver, DropsIn, LeavesOver}
 use Rattle.hub_core.specs.Thorough.{IsThorough, IsThoroughOver}
 use Rattle.hub_core.specs.Seats.{IsOfWorkers}
 use Rattle.hub_core.specs.Seen.{Seen}
 use Rattle.hub_core.proofs.Counting.{some_is}
 use Rattle.hub_core.specs.Heard.{HeardIn}
-use Rattle.shared_hub.specs.Ends.{IsNoMemory}
 use Rattle.shared_hub.specs.Leaving.{GoesThrough}
 use Rattle.shared_hub.proofs.Hearing.{new_hears_none}
 use Rattle.shared_hub.proofs.Told.{no_memory}

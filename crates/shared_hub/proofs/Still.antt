@@ -1,5 +1,6 @@
 -- A hub of which no more changes than how many indications it counts as missed stays as it is in all else; and hubs that go on, whatever they count as missed.
 use Rattle.std.proofs.Common.{◌≡◌, ℕ, length, refl, sym, ap, subst}
+use Rattle.line_model.specs.declared.outside.link_counts.LinkCounts.{LinkCounts}
 use Rattle.line_model.specs.Lines.{Script}
 use Rattle.line_model.specs.LinkStory.{Story}
 use Rattle.hub_core.specs.Left.{AllDone}
@@ -26,7 +27,7 @@ module _ {L : Type 0} (old new : Seen L) (s : SameButMissed old new) where
     pub far_still : KnowsHowFar old (story_of old.link) → KnowsHowFar new (story_of new.link)
     far_still k = subst (λ (h : Seen L). KnowsHowFar h (story_of h.link)) (sym is_still) k
 
-module _ {L : Type 0} (story_of : L → Story) (script_of : L → Script) (faults_of : L → ℕ) where
+module _ {L : Type 0} (story_of : L → Story) (script_of : L → Script) (faults_of : L → LinkCounts) where
   -- a call of the hub, and what only counts
   pub called : {old new : Seen L} → Since story_of script_of faults_of old new → GoesOnFrom story_of script_of faults_of old new
   called s = record { grows = s.grows; script = s.script; run = record { tasks = s.run.tasks; devices = s.run.devices; turns = s.run.turns; workers = s.run.workers; missed = refl }; count = s.count; caused = s.caused }

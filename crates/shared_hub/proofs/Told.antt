@@ -1,21 +1,17 @@
--- What is told of a run that was broken off by its caller; and that what is told of a run is told of the same jobs and group telegrams.
-use Rattle.std.proofs.Common.{◌≡◌, ℕ, List, Option, Some, None, sym, subst}
+-- That want of memory has its cause always; and that what is told of a run is told of the same jobs and group telegrams.
+use Rattle.std.proofs.Common.{◌≡◌, ℕ, List, Option, Some, None, subst}
 use Rattle.knx_model.specs.declared.address.IndAddr.{IndAddr}
 use Rattle.line_model.specs.declared.fault.HubFault.{HubFault}
 use Rattle.line_model.specs.declared.fault.HubFault.TheVariants.{NoMemory, LinkFailed, GatewayRefused, Flooded, WrongLine}
 use Rattle.line_model.specs.declared.group.GroupTurn.{GroupTurn}
-use Rattle.line_model.specs.declared.group.Indication.{Indication}
 use Rattle.line_model.specs.declared.log.LogEntry.{LogEntry}
 use Rattle.line_model.specs.declared.log.Report.{Report}
 use Rattle.line_model.specs.LinkStory.{Story}
 use Rattle.line_model.specs.Log.{Job}
 use Rattle.line_model.specs.Record.{Entry}
 use Rattle.hub_work.specs.Downloaders.{Task}
-use Rattle.hub_core.specs.Commissioned.{TellsRun}
-use Rattle.hub_core.specs.Heard.{HeardIn}
+use Rattle.hub_core.specs.Commissioned.{IsNoMemory, TellsRun}
 use Rattle.hub_core.specs.Promises.{FaultRightIn}
-use Rattle.shared_hub.specs.Ends.{IsNoMemory, TellsFault}
-use Rattle.shared_hub.proofs.Hearing.{broken_heard}
 
 -- want of memory has its cause always
 pub no_memory : (jobs : List Job) (log : List LogEntry) (fault : HubFault) (r : Option (List Entry)) → IsNoMemory fault → FaultRightIn jobs log (Some fault) r
@@ -26,19 +22,8 @@ no_memory jobs log (GatewayRefused tries) r is = absurd is
 no_memory jobs log Flooded r is = absurd is
 no_memory jobs log (WrongLine device tunnel) r is = absurd is
 
-pub told_right : (jobs : List Job) (log : List LogEntry) (ended told : Option HubFault) (r : Option (List Entry)) → TellsFault ended told → FaultRightIn jobs log ended r → FaultRightIn jobs log told r
-told_right jobs log (Some fault) told r tells right = subst (λ f. FaultRightIn jobs log f r) (sym tells) right
-told_right jobs log None None r tells right = right
-told_right jobs log None (Some fault) r tells right = no_memory jobs log fault r tells
-
 pub told_for : (workers : ℕ) (tasks others : List Task) (devices same : List IndAddr) (turns groups : List GroupTurn) (story : Story) (place : ℕ) (report : Report) → tasks ≡ others → devices ≡ same → turns ≡ groups
     → TellsRun workers tasks devices turns story place report → TellsRun workers others same groups story place report
 told_for workers tasks others devices same turns groups story place report tasks_are devices_are turns_are tells =
     subst (λ (ts : List Task). TellsRun workers ts same groups story place report) tasks_are
     (subst (λ (ds : List IndAddr). TellsRun workers tasks ds groups story place report) devices_are (subst (λ (gs : List GroupTurn). TellsRun workers tasks devices gs story place report) turns_are tells))
-
--- what was heard, where the run was broken off too
-pub told_heard : (ended told : Option HubFault) (missed : ℕ) (heard : List Indication) (r : Option (List Entry)) → TellsFault ended told → HeardIn ended missed heard r → HeardIn told missed heard r
-told_heard (Some fault) told missed heard r tells h = subst (λ f. HeardIn f missed heard r) (sym tells) h
-told_heard None None missed heard r tells h = h
-told_heard None (Some fault) missed heard r tells h = broken_heard fault missed heard r h

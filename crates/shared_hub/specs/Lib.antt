@@ -4,6 +4,5 @@ pub mod Watchers
 pub mod Sites
 pub mod Steps
 pub mod Works
-pub mod Ends
 pub mod Leaving
 pub mod Runs

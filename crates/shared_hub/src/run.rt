@@ -1,6 +1,6 @@
 //! The run of a line.
 
-ghost use Rattle.std.specs.Prelude.{◌≡◌, ◌<◌, ◌≤◌, [], IfErr, IfOk, IfSome, None, Some, length, map, replicate};
+ghost use Rattle.std.specs.Prelude.{◌≡◌, ◌<◌, ◌≤◌, [], IfErr, IfOk, None, Some, length, map, replicate};
 ghost use Rattle.std.specs.List.{AllByRecursion};
 ghost use Rattle.hub_core.specs.Commissioned.{Commissioned};
 ghost use Rattle.hub_core.specs.Left.{AllDone};
@@ -9,7 +9,6 @@ ghost use Rattle.hub_work.specs.declared.job.HubJob.{HubJob as JobOfHub};
 ghost use Rattle.hub_work.specs.Requests.{IsTurnInRange};
 ghost use Rattle.line_model.specs.LinkStory.{IsNewLink};
 ghost use Rattle.shared_hub.specs.Sites.{IsOpening, items_of};
-ghost use Rattle.shared_hub.specs.Ends.{HasEndedSo};
 ghost use Rattle.shared_hub.specs.Runs.{RunsOf, WatchesRun};
 ghost use Rattle.shared_hub.specs.Watchers.{IsWatchedAt};
 ghost use Rattle.telegram_router.specs.Ends.{first_ear, first_feed};
@@ -21,7 +20,7 @@ use crate::listener::Listener;
 use crate::relay::Relay;
 use crate::site::{Parts, Site};
 use crate::watching::Watching;
-use hub_core::{GroupTurn, Hub, HubFault, HubJob};
+use hub_core::{GroupTurn, Hub, HubEnd, HubFault, HubJob};
 use knx_model::{List, NoMemory};
 use line_law::every_safe_interleaving;
 use line_model::{Gate, Link, Report, Watcher};
@@ -56,7 +55,7 @@ impl Listening {
     }
 }
 
-/// What is told where nothing was done, since there was no memory for a hub.
+/// What is told where nothing was done, since there was no memory for a hub or its cell.
 fn nothing_done(alloc: Global, no_memory: NoMemory) -> Report
     ensures log { result.log ≡ [] }
     ensures heard { result.heard ≡ [] }
@@ -73,30 +72,29 @@ fn nothing_done(alloc: Global, no_memory: NoMemory) -> Report
     }
 }
 
-/// Why a run ends before its closing: its hub has ended so, or it was refused a cell.
-fn broken_off(ended: Option<HubFault>, refused: Option<NoMemory>) -> Option<HubFault>
-    ensures cause { IfSome result (HasEndedSo ended) }
-    ensures stands { result ≡ None → ended ≡ None }
-    ensures given { result ≡ None → refused ≡ None }
+/// The link, and who watched, of a site that is given up before its first turn.
+fn given_up<L: Link, W: Watcher>(site: Site<L, W>) -> (L, W)
+    ensures link { result.0 ≡ site.hub.link }
+    ensures watcher { W.watch result.1 ≡ site.watching.watch }
+    ensures watches { IsWatchedAt L.story site.hub site.hub.log (W.watch site.watched.value) site.watching }
 {
-    if let Some(fault) = ended {
-        return Some(fault);
-    }
-    match refused {
-        Some(no_memory) => Some(HubFault::NoMemory(no_memory)),
-        None => None,
-    }
+    let Parts {
+        hub,
+        feed: _,
+        watching,
+    } = site.apart();
+    let HubEnd { link, .. } = hub.close();
+    (link, watching.into_watcher())
 }
 
-/// Closes the run that is left so, or was refused a cell, and hands the link and who watched back with what is told.
+/// Closes the run that is left so, and hands the link and who watched back with what is told.
 fn ended<R: Wait, L: Link, W: Watcher>(
     rt: &R,
     site: Site<L, W>,
     relay: &Relay,
     listener: Listener,
-    refused: Option<NoMemory>,
 ) -> (L, Report, W)
-    requires done { site.hub.fault ≡ None → refused ≡ None → AllDone site.hub }
+    requires done { site.hub.fault ≡ None → AllDone site.hub }
     requires feed { site.relay.value ≡ relay.now }
     requires listens { listener.router ≡ relay.now }
     ensures runs { RunsOf L.story L.place L.script L.faults site.opening.value result.0 result.1 }
@@ -108,7 +106,7 @@ fn ended<R: Wait, L: Link, W: Watcher>(
         watching,
     } = site.apart();
     let heard = listener.close(rt, relay, feed, &mut hub);
-    let ended = broken_off(hub.fault(), refused);
+    let ended = hub.fault();
     let (link, report) = Ending { hub, heard }.end(rt, ended);
     (link, report, watching.into_watcher())
 }
@@ -143,7 +141,7 @@ fn cell_of<L: Link, W: Watcher>(
     }
 }
 
-/// A run from its beginning to its end.
+/// A run from its beginning to its end, or none where there is no memory for its cell.
 fn run<R: Threads + Wait + Sync, L: Link + Send, W: Watcher + Send, G: Gate + Sync>(
     rt: &R,
     alloc: Global,
@@ -173,9 +171,13 @@ fn run<R: Threads + Wait + Sync, L: Link + Send, W: Watcher + Send, G: Gate + Sy
         Ok((cell, seat)) => {
             let (site, listener) = all_done(rt, cell, seat, &relay, listener, workers, gate);
             site.keeps();
-            ended(rt, site, &relay, listener, None)
+            ended(rt, site, &relay, listener)
         }
-        Err((site, no_memory)) => ended(rt, site, &relay, listener, Some(no_memory)),
+        Err((site, no_memory)) => {
+            every_safe_interleaving();
+            let (link, watcher) = given_up(site);
+            (link, nothing_done(alloc, no_memory), watcher)
+        }
     }
 }
 
@@ -226,7 +228,7 @@ fn begun<L: Link, W: Watcher>(
 
 /// Commissions a line by 1 to 8 workers: goes through all jobs, sends all group telegrams, and closes, over a link on which nothing was done. The gate is passed
 /// between taking a job and starting it; who watches is told each entry of the log in the turn in which it is made, and of each job that is held, at most once a
-/// second, how far it is. It gives the link and the watcher back, and what is told of the run. Want of memory before the first turn is the report's fault; later a
+/// second, how far it is. It gives the link and the watcher back, and what is told of the run. Want of memory before the first turn is the report's fault, and then nothing was done; later a
 /// group telegram that is heard and can't be kept is counted as missed.
 pub fn commission<R: Threads + Wait + Sync, L: Link + Send, W: Watcher + Send, G: Gate + Sync>(
     rt: &R,

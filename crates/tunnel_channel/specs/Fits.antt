@@ -2,6 +2,7 @@
 -- channel's connect response on. Where the time alone has ended the channel, or the wait for one, the end is told so by `expire` only: until
 -- then it is behind the record.
 use Rattle.std.specs.Prelude.{◌≡◌, ℕ, ◌⊎◌, Bool, true, false, List, [], ◌∷◌, length, Option, Some, None}
+use Rattle.knx_model.specs.declared.address.IndAddr.{IndAddr}
 use Rattle.knx_model.specs.declared.frames.cemi.Ldata.{Ldata}
 use Rattle.knx_model.specs.declared.frames.ip.IpFrame.TheVariants.{TunnellingRequest}
 use Rattle.knx_model.specs.Connection.{has_passed}
@@ -11,7 +12,7 @@ use Rattle.line_model.specs.Record.{Entry}
 use Rattle.line_model.specs.LinkStory.{newest_time}
 use Rattle.line_model.specs.ChannelLost.{answer_wait, expected, own, acknowledged, confirmed, last_frame, beats, has_left}
 use Rattle.line_model.specs.ClientView as seen
-use Rattle.line_model.specs.ClientView.{ClientChannel, channel}
+use Rattle.line_model.specs.ClientView.{ClientChannel, channel, own_address}
 use Rattle.line_model.specs.Renews.{last_beat}
 use Rattle.line_model.specs.Sendings.{last_request}
 use Rattle.line_model.specs.ClientEnd.{Outstanding, Free, Once, Again, OpenEnd, ClientEnd, Idle, Seeking, Open, Leaving, JustLost, is_over}
@@ -124,3 +125,8 @@ confirmed_in _ = true
 abbrev pub last_in : ClientChannel → Option Ldata
 last_in (seen.Open c l) = last_frame c l
 last_in _ = None
+
+-- the tunnel's own address
+abbrev pub own_in : ClientChannel → Option IndAddr
+own_in (seen.Open c l) = own_address l
+own_in _ = None

@@ -14,7 +14,7 @@ use Rattle.line_model.specs.Moments.{Moment}
 use Rattle.line_model.specs.Renews.{RenewsSo, has_renewed, is_just_renewed}
 use Rattle.line_model.specs.Closing.{is_open}
 use Rattle.line_model.specs.ClientEnd.{ClientEnd, Idle, Seeking, Open, Leaving, JustLost, OpenEnd, IsCemi, is_free, request_of, put_octets, channel_put}
-use Rattle.tunnel_channel.specs.Fits.{last_in}
+use Rattle.tunnel_channel.specs.Fits.{last_in, own_in}
 use Rattle.tunnel_channel.proofs.Frames.{request_read}
 use Rattle.tunnel_link.specs.declared.came.Loss.{Loss}
 use Rattle.tunnel_link.specs.declared.came.Loss.TheVariants as loss
@@ -120,12 +120,12 @@ ended_lost ch after e = record { c = e.d; is = e.lost }
 
 lost_in_got : (ch : ClientChannel) (octets : List ℕ) (now : ℕ) → GotDeed ch (entry (Got octets) now) (after_entry ch (entry (Got octets) now)) → deed ch (entry (Got octets) now) ≡ Loses → IsLostNow (after_entry ch (entry (Got octets) now))
 lost_in_got ch octets now (IsLost d c) h = ended_lost ch (after_entry ch (entry (Got octets) now)) (ending ch (after_entry ch (entry (Got octets) now)) c)
-lost_in_got ch octets now (IsTaken o d c) h = absurd (not_lost (counts (last_in ch) (ldata_in o)) (sym (deed_is ch (entry (Got octets) now) ∙ ap (as_counted (last_in ch)) d) ∙ h))
+lost_in_got ch octets now (IsTaken o d c) h = absurd (not_lost (counts (own_in ch) (last_in ch) (ldata_in o)) (sym (deed_is ch (entry (Got octets) now) ∙ ap (as_counted (own_in ch) (last_in ch)) d) ∙ h))
   where
     not_lost : (b : Bool) → ◌≡◌ {A = seen.Deed} (if b then seen.Takes o else Nothing) Loses → ⊥
     not_lost true e = cc
     not_lost false e = cc
-lost_in_got ch octets now (IsNone d c) h = absurd (let z : (Nothing ≡ Loses) = sym (deed_is ch (entry (Got octets) now) ∙ ap (as_counted (last_in ch)) d) ∙ h in cc)
+lost_in_got ch octets now (IsNone d c) h = absurd (let z : (Nothing ≡ Loses) = sym (deed_is ch (entry (Got octets) now) ∙ ap (as_counted (own_in ch) (last_in ch)) d) ∙ h in cc)
 
 quiet_lost : (c : ℕ) (l : List Entry) (now : ℕ) (b : Bool) → lose.is_lost c l (entry Quiet now) ≡ b → deed (seen.Open c l) (entry Quiet now) ≡ Loses → IsLostNow (after_entry (seen.Open c l) (entry Quiet now))
 unfolding deed after_entry

@@ -8,13 +8,13 @@ use Rattle.knx_model.specs.Connection.{has_passed}
 use Rattle.line_model.specs.declared.client_end.ChannelTook.TheVariants as took
 use Rattle.line_model.specs.declared.fault.Try.{Try}
 use Rattle.line_model.specs.declared.fault.Try.TheVariants as try
-use Rattle.line_model.specs.Reading.{datagram_in, RequestFrame, request_in}
+use Rattle.line_model.specs.Reading.{datagram_in, RequestFrame, request_in, tunnel_told}
 use Rattle.line_model.specs.Record.{Got, Entry, entry}
 use Rattle.line_model.specs.ClientView as seen
 use Rattle.line_model.specs.ClientView.{ClientChannel, channel, after_entry, answered, sought_got, Takes, Loses, Nothing, traffic, deed}
 use Rattle.line_model.specs.ChannelLost.{answer_wait, expected, delivers, is_lost}
 use Rattle.line_model.specs.Dropped.{is_dropped, dropped}
-use Rattle.line_model.specs.Faults.{tries_after, tunnel_told, opens, is_counted, datagrams_taken}
+use Rattle.line_model.specs.Faults.{tries_after, opens, is_counted, datagrams_taken}
 use Rattle.line_model.specs.ClientEnd.{ClientEnd, Idle, Seeking, Open, Leaving, JustLost, is_over}
 use Rattle.line_model.specs.ClientFrames.{seeking_took, channel_took}
 use Rattle.tunnel_channel.specs.Follows.{Opens, Refuses, Ends, Stays, change}

@@ -19,7 +19,7 @@ use Rattle.tunnel_channel.proofs.Puts.{opened_put, lost_put}
 use Rattle.tunnel_channel.proofs.Take.{lapsed_alike}
 use Rattle.tunnel_link.specs.declared.known.Known.{Known}
 use Rattle.tunnel_link.specs.Kept.{none_in_flight, is_late}
-use Rattle.tunnel_link.specs.Rights.{IsRight, FitsNow, FitsRecord, IsKept, IsntRefusal, IsPutLast, tries_of}
+use Rattle.tunnel_link.specs.Rights.{IsRight, FitsNow, FitsRecord, IsKept, IsntRefusal, CountsBy, tries_of}
 use Rattle.tunnel_link.proofs.Entries.{put_tries, put_owes, put_right, failed_right}
 use Rattle.tunnel_link.proofs.Partings.{put_parted}
 
@@ -115,7 +115,7 @@ failed_kept k r fault n right = record { right = failed_right k r fault n right;
 pub record Flies (k : Known) (ch : ClientChannel) : Type 0 where
   pub acknowledged : k.flight.acknowledged ≡ acknowledged_in ch
   pub confirmed : k.flight.confirmed ≡ confirmed_in ch
-  pub put : IsPutLast k.put ch
+  pub counts : CountsBy k.tunnel k.put ch
 
 pub open_sent_by : (next : Known) (r : List Entry) (octets : List ℕ) (c : ℕ) (l : List Entry) → channel r ≡ seen.Open c l → IsCurrent (channel r) (newest_time r) → tries_of next.tries ≡ tries r → length (tries r) < 3
     → Fits next.channel (entry (Put octets) (newest_time r) ∷ r) → Flies next (channel (entry (Put octets) (newest_time r) ∷ r)) → FitsRecord next (entry (Put octets) (newest_time r) ∷ r)
@@ -127,7 +127,7 @@ open_sent_by next r octets c l at current failed few fits flies =
       current = sendings_stay_current r octets now current;
       acknowledged = flies.acknowledged;
       confirmed = flies.confirmed;
-      put = flies.put;
+      counts = flies.counts;
       failed = failed ∙ sym (put_tries r octets now);
       few = rw (put_tries r octets now) few;
       paid = put_owes r octets now;
@@ -151,7 +151,7 @@ lost_sent next r octets c at idle none failed few =
       current = rw stays tt;
       acknowledged = rw (none, stays) refl;
       confirmed = rw (none, stays) refl;
-      put = rw stays tt;
+      counts = rw stays tt;
       failed = failed ∙ sym (put_tries r octets now);
       few = rw (put_tries r octets now) few;
       paid = put_owes r octets now;

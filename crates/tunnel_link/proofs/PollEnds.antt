@@ -65,11 +65,11 @@ module _ (k : Known) (r : List Entry) (f : FitsRecord k r) (right : IsRight k r)
 
   counted_by : (b : Bool) → answers_heartbeat frame (channel_took k.channel frame now) ≡ b
       → IsCounted k (counted frame (channel_took k.channel frame now) (with_channel_of k frame now)) (after_took k.channel frame now (channel_took k.channel frame now)) (entry (Got octets) now ∷ r)
-  counted_by true q = rw q (record { channel_is = refl; flight_is = refl; put_is = refl; tries_is = refl; fault_is = refl; drops_is = refl; takes_is = takes_none k.taken r (entry (Got octets) now) (rw (beats_so, q) refl) right.takes })
-  counted_by false q = rw q (record { channel_is = refl; flight_is = refl; put_is = refl; tries_is = refl; fault_is = refl; drops_is = refl; takes_is = takes_one k.taken r (entry (Got octets) now) (rw (beats_so, q) refl) right.takes })
+  counted_by true q = rw q (record { channel_is = refl; flight_is = refl; tunnel_is = refl; put_is = refl; tries_is = refl; fault_is = refl; drops_is = refl; takes_is = takes_none k.taken r (entry (Got octets) now) (rw (beats_so, q) refl) right.takes })
+  counted_by false q = rw q (record { channel_is = refl; flight_is = refl; tunnel_is = refl; put_is = refl; tries_is = refl; fault_is = refl; drops_is = refl; takes_is = takes_one k.taken r (entry (Got octets) now) (rw (beats_so, q) refl) right.takes })
 
   by_told : (t : ChannelTook) → channel_took k.channel frame now ≡ t → (next : Known) → TakesFrame (after_took k.channel frame now t) t (is_over k.channel now) octets now r → IsCounted k next (after_took k.channel frame now t) (entry (Got octets) now ∷ r)
-      → TakenSo (after_told now t next) (told_answer t k.put next.channel) r (entry (Got octets) now)
+      → TakenSo (after_told now t next) (told_answer t k.tunnel k.put next.channel) r (entry (Got octets) now)
   by_told took.Dropped q next t cs = row_dropped k r f right calm octets frame now is in_time next q t cs
   by_told (took.Up address) q next t cs = row_up k r f right calm octets frame now is in_time address next q t cs
   by_told (took.RefusedBy status) q next t cs = row_refused k r f right calm octets frame now is in_time status next q t cs
@@ -88,7 +88,7 @@ module _ (k : Known) (r : List Entry) (f : FitsRecord k r) (right : IsRight k r)
   unfolding taken take_answer
   takes_so =
       let next : Known = counted frame (channel_took k.channel frame now) (with_channel_of k frame now) in
-      subst (λ (end : ClientEnd). TakenSo (after_told now (channel_took k.channel frame now) (counted frame (channel_took k.channel frame now) (with_channel_of k frame now))) (told_answer (channel_took k.channel frame now) k.put end) r (entry (Got octets) now)) (same_channel _ refl)
+      subst (λ (end : ClientEnd). TakenSo (after_told now (channel_took k.channel frame now) (counted frame (channel_took k.channel frame now) (with_channel_of k frame now))) (told_answer (channel_took k.channel frame now) k.tunnel k.put end) r (entry (Got octets) now)) (same_channel _ refl)
       (by_told (channel_took k.channel frame now) refl (counted frame (channel_took k.channel frame now) (with_channel_of k frame now)) frame_so (counted_by _ refl))
 
 -- ---- what came, and what is answered
@@ -123,7 +123,7 @@ module _ (k : Known) (old ws : List Placed) (calm : k.fault ≡ None) (f : FitsR
       (takes_one k.taken (entries (ws ++ old)) (entry (Got octets) now) n.counts right_then.takes) (rw calm tt)
 
   waited_unread : Waited (dropped_as_unread k) old ws
-  waited_unread = waits_all (dropped_as_unread k) old ws (fits_with k (dropped_as_unread k) (entries old) refl refl refl refl f) times
+  waited_unread = waits_all (dropped_as_unread k) old ws (fits_with k (dropped_as_unread k) (entries old) refl refl refl refl refl f) times
 
   got_late : (octets : List ℕ) → is_over_for k now ≡ true → Comes (lapsed (dropped_as_unread k) now) (lapse_answer came.Dropped (dropped_as_unread k) now) old ws (last (Got octets))
   got_late octets over =

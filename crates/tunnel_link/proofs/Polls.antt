@@ -12,7 +12,7 @@ use Rattle.line_model.specs.ClientView.{ClientChannel, channel, after_entry}
 use Rattle.line_model.specs.ChannelLost.{answer_wait, has_lapsed}
 use Rattle.line_model.specs.Dropped.{is_dropped, drops_sought}
 use Rattle.line_model.specs.Dropped as drop
-use Rattle.line_model.specs.Faults.{tries, tunnel_told, opens, is_counted, datagrams_taken}
+use Rattle.line_model.specs.Faults.{tries, opens, is_counted, datagrams_taken}
 use Rattle.line_model.specs.Faults as fault
 use Rattle.line_model.specs.Renews.{owed}
 use Rattle.line_model.specs.ClientEnd.{ClientEnd, Idle, Seeking, Open, Leaving, JustLost, is_over}
@@ -48,13 +48,13 @@ pub waits_right : (k : Known) (old ws : List Placed) → k.fault ≡ None → Fi
 waits_right k old [] calm f h right = right
 waits_right k old (p ∷ ws) calm f h right = quiet_right k (entries (ws ++ old)) p.what.what p.what.now h.0 calm (waited_paid k old ws (waits_all k old ws f h.2)) (waits_right k old ws calm f h.2 right)
 
-pub fits_with : (k next : Known) (r : List Entry) → next.channel ≡ k.channel → next.flight ≡ k.flight → next.put ≡ k.put → next.tries ≡ k.tries → FitsRecord k r → FitsRecord next r
-fits_with k next r c p u t f = record {
+pub fits_with : (k next : Known) (r : List Entry) → next.channel ≡ k.channel → next.flight ≡ k.flight → next.tunnel ≡ k.tunnel → next.put ≡ k.put → next.tries ≡ k.tries → FitsRecord k r → FitsRecord next r
+fits_with k next r c p o u t f = record {
   end = rw c f.end;
   current = f.current;
   acknowledged = rw p f.acknowledged;
   confirmed = rw p f.confirmed;
-  put = rw u f.put;
+  counts = rw (o, u) f.counts;
   failed = rw t f.failed;
   few = f.few;
   paid = f.paid;

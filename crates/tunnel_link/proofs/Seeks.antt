@@ -102,7 +102,7 @@ module _ (k : Known) (r : List Entry) (f : FitsRecord k r) (right : IsRight k r)
           current = sendings_stay_current more (Written ConnectRequest) now (rw (renewed_is r now) tt);
           acknowledged = rw sought (f.acknowledged ∙ flies.0);
           confirmed = rw sought (f.confirmed ∙ flies.1);
-          put = rw sought tt;
+          counts = rw sought tt;
           failed = f.failed ∙ sym failed;
           few = rw failed f.few;
           paid = put_owes more (Written ConnectRequest) now;

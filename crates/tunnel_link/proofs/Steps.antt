@@ -19,12 +19,12 @@ use Rattle.line_model.specs.ClientEnd.{ClientEnd, Idle, Seeking, Open, Leaving, 
 use Rattle.tunnel_channel.specs.Fits.{HasNone, KnowsOpen, end_of}
 use Rattle.tunnel_channel.specs.Follows.{Expires, PutsRequest, Sends, sent_by, is_told_over, is_up_or_sought}
 use Rattle.tunnel_channel.proofs.Frames.{leave_read}
-use Rattle.tunnel_channel.proofs.Puts.{renews_other, put_none}
+use Rattle.tunnel_channel.proofs.Puts.{opened_put, renews_other, put_none}
 use Rattle.tunnel_channel.proofs.Calls.{put_follows, leave_follows}
 use Rattle.tunnel_channel.proofs.Expired.{expire_follows}
 use Rattle.tunnel_link.specs.declared.known.Known.{Known}
 use Rattle.tunnel_link.specs.Kept.{with_due, with_put, with_leave}
-use Rattle.tunnel_link.specs.Rights.{IsRight, FitsNow, FitsRecord}
+use Rattle.tunnel_link.specs.Rights.{CountsBy, IsRight, FitsNow, FitsRecord}
 use Rattle.tunnel_link.proofs.Entries.{put_still}
 use Rattle.tunnel_link.proofs.PutLast.{put_of, sent_put}
 use Rattle.tunnel_link.proofs.MaySend.{fits_of, not_over, Sending, open_sent}
@@ -103,7 +103,7 @@ module _ (k : Known) (r : List Entry) (f : FitsRecord k r) where
         renews = expires.right octets h;
         parts = put_parts r octets (newest_time r) f.parted (λ asks. rw o.is refl);
         fits = λ u. open_sent k (with_due k (newest_time r)) r octets o.c o.l o.is f refl s.fits
-            (record { acknowledged = f.acknowledged ∙ sym still.acked; confirmed = f.confirmed ∙ sym still.confirms; put = sent_put k.put (channel r) octets (newest_time r) none f.put });
+            (record { acknowledged = f.acknowledged ∙ sym still.acked; confirmed = f.confirmed ∙ sym still.confirms; counts = sent_put k.tunnel k.put (channel r) octets (newest_time r) none f.counts });
         did = none;
       }
 
@@ -127,7 +127,7 @@ put_sends k r cemi octets f right i h =
       may = p.sends.may;
       renews = p.right;
       parts = put_parts r octets now f.parted (λ asks. rw o.is refl);
-      fits = λ u. open_sent k (with_put k cemi now) r octets o.c o.l o.is f refl p.sends.fits (record { acknowledged = rw h (sym p.unacknowledged); confirmed = rw h (sym p.unconfirmed); put = rw h (put_of (ldata_in cemi) (channel (entry (Put octets) now ∷ r)) p.frame) });
+      fits = λ u. open_sent k (with_put k cemi now) r octets o.c o.l o.is f refl p.sends.fits (record { acknowledged = rw h (sym p.unacknowledged); confirmed = rw h (sym p.unconfirmed); counts = rw h (put_of k.tunnel k.put (ldata_in cemi) o.c o.l (entry (Put octets) now) (channel (entry (Put octets) now ∷ r)) (subst (CountsBy k.tunnel k.put) o.is f.counts) (opened_put r octets now o.c o.l o.is) p.frame) });
       did = p.deed;
     }
 
@@ -209,6 +209,6 @@ leave_sends k r octets f right h =
       renews = renews_other r octets (DisconnectRequest a.c) now (asks_read octets a) refl;
       parts = put_parts r octets now f.parted (λ asks. rw o.is refl);
       fits = λ u. open_sent k (with_leave k) r octets o.c o.l o.is f refl s.fits
-          (record { acknowledged = f.acknowledged ∙ sym still.acked; confirmed = f.confirmed ∙ sym still.confirms; put = sent_put k.put (channel r) octets now none f.put });
+          (record { acknowledged = f.acknowledged ∙ sym still.acked; confirmed = f.confirmed ∙ sym still.confirms; counts = sent_put k.tunnel k.put (channel r) octets now none f.counts });
       did = none;
     }

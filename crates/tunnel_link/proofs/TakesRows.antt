@@ -17,14 +17,14 @@ use Rattle.line_model.specs.Leaves.{parting_of}
 use Rattle.line_model.specs.Signs.{Every}
 use Rattle.line_model.specs.ClientEnd.{ClientEnd, Idle, Seeking, Open, Leaving, JustLost, is_over}
 use Rattle.line_model.specs.ClientFrames.{channel_took, after_took}
-use Rattle.tunnel_channel.specs.Fits.{FitsChannel, acknowledged_in, confirmed_in, last_in}
+use Rattle.tunnel_channel.specs.Fits.{FitsChannel, acknowledged_in, confirmed_in, last_in, own_in}
 use Rattle.tunnel_channel.specs.Follows.{TakesFrame, Opens, Ends, Stays, change, change_told, cemi_in, taken_in, answer_in, is_told_dropped, acknowledgement_in}
 use Rattle.tunnel_channel.proofs.Current.{polls_are_current}
 use Rattle.tunnel_link.specs.declared.came.Answer.{Answer}
 use Rattle.tunnel_link.specs.declared.known.Known.{Known}
 use Rattle.tunnel_link.specs.declared.tries.Tries.TheVariants.{Zero}
 use Rattle.tunnel_link.specs.Kept.{none_in_flight, counted_up, drops, after_told, told_answer, tried}
-use Rattle.tunnel_link.specs.Rights.{IsRight, FitsNow, FitsRecord, FitsFault, IsPutLast, tries_of, at_most_64_bits}
+use Rattle.tunnel_link.specs.Rights.{IsRight, FitsNow, FitsRecord, FitsFault, CountsBy, tries_of, at_most_64_bits}
 use Rattle.tunnel_link.specs.Adds.{IsNothing, GotSo, DoesSo, is_told}
 use Rattle.tunnel_link.proofs.Entries.{poll_right}
 use Rattle.tunnel_link.proofs.MaySend.{Flies, open_sent_by}
@@ -45,6 +45,7 @@ pub record TakenSo (next : Known) (answer : Answer) (r : List Entry) (x : Entry)
 pub record IsCounted (k counted : Known) (end : ClientEnd) (r : List Entry) : Type 0 where
   pub channel_is : counted.channel ≡ end
   pub flight_is : counted.flight ≡ k.flight
+  pub tunnel_is : counted.tunnel ≡ k.tunnel
   pub put_is : counted.put ≡ k.put
   pub tries_is : counted.tries ≡ k.tries
   pub fault_is : counted.fault ≡ k.fault
@@ -59,7 +60,7 @@ module _ (k : Known) (r : List Entry) (f : FitsRecord k r) (right : IsRight k r)
   Frame told = TakesFrame (after_took k.channel frame now told) told (is_over k.channel now) octets now r
 
   abbrev pub Row : ChannelTook → Type 0
-  Row told = (counted : Known) → channel_took k.channel frame now ≡ told → Frame told → IsCounted k counted (after_took k.channel frame now told) (x ∷ r) → TakenSo (after_told now told counted) (told_answer told k.put counted.channel) r x
+  Row told = (counted : Known) → channel_took k.channel frame now ≡ told → Frame told → IsCounted k counted (after_took k.channel frame now told) (x ∷ r) → TakenSo (after_told now told counted) (told_answer told k.tunnel k.put counted.channel) r x
 
   module _ (told : ChannelTook) (counted : Known) (t : Frame told) (cs : IsCounted k counted (after_took k.channel frame now told) (x ∷ r)) where
     pub changes : change (channel r) (channel (x ∷ r)) ≡ change_told told
@@ -119,7 +120,7 @@ module _ (k : Known) (r : List Entry) (f : FitsRecord k r) (right : IsRight k r)
       current = polls_are_current r (Got octets) now refl;
       acknowledged = flies.acknowledged;
       confirmed = flies.confirmed;
-      put = flies.put;
+      counts = flies.counts;
       failed = failed;
       few = few;
       paid = unowed n;
@@ -134,14 +135,14 @@ module _ (k : Known) (r : List Entry) (f : FitsRecord k r) (right : IsRight k r)
         let o = owed_open (channel r) x (channel (x ∷ r)) ack (t.acknowledges ∙ h) in
         let still = Rattle.tunnel_link.proofs.Entries.put_still (x ∷ r) ack now (t.no_deed ack a) in
         open_sent_by next (x ∷ r) ack o.c o.l o.is (polls_are_current r (Got octets) now refl) failed few (rw (same, cs.channel_is) (t.answers ack a).fits)
-        (record { acknowledged = flies.acknowledged ∙ sym still.acked; confirmed = flies.confirmed ∙ sym still.confirms; put = sent_put next.put (channel (x ∷ r)) ack now (t.no_deed ack a) flies.put })
+        (record { acknowledged = flies.acknowledged ∙ sym still.acked; confirmed = flies.confirmed ∙ sym still.confirms; counts = sent_put next.tunnel next.put (channel (x ∷ r)) ack now (t.no_deed ack a) flies.counts })
 
-    -- where no channel came up, the frame put last is still that
-    pub put_same : (next : Known) → next.put ≡ counted.put → change_told told ≢ Opens → IsPutLast next.put (channel (x ∷ r))
-    put_same next same n = rw (same, cs.put_is) (poll_put k.put (channel r) (Got octets) now refl (λ h. n (sym changes ∙ h)) f.put)
+    -- where no channel came up, the frame put last is still that, and the tunnel's own address
+    pub put_same : (next : Known) → next.tunnel ≡ counted.tunnel → next.put ≡ counted.put → change_told told ≢ Opens → CountsBy next.tunnel next.put (channel (x ∷ r))
+    put_same next own same n = rw (own, cs.tunnel_is, same, cs.put_is) (poll_put k.tunnel k.put (channel r) (Got octets) now refl (λ h. n (sym changes ∙ h)) f.counts)
 
-    pub flies_same : (next : Known) → next.flight ≡ counted.flight → next.put ≡ counted.put → change_told told ≢ Opens → (acknowledged_in (channel (x ∷ r)) ≡ acknowledged_in (channel r)) → (confirmed_in (channel (x ∷ r)) ≡ confirmed_in (channel r)) → Flies next (channel (x ∷ r))
-    flies_same next same put n a c = record { acknowledged = rw (same, cs.flight_is) (f.acknowledged ∙ sym a); confirmed = rw (same, cs.flight_is) (f.confirmed ∙ sym c); put = put_same next put n }
+    pub flies_same : (next : Known) → next.flight ≡ counted.flight → next.tunnel ≡ counted.tunnel → next.put ≡ counted.put → change_told told ≢ Opens → (acknowledged_in (channel (x ∷ r)) ≡ acknowledged_in (channel r)) → (confirmed_in (channel (x ∷ r)) ≡ confirmed_in (channel r)) → Flies next (channel (x ∷ r))
+    flies_same next same own put n a c = record { acknowledged = rw (same, cs.flight_is) (f.acknowledged ∙ sym a); confirmed = rw (same, cs.flight_is) (f.confirmed ∙ sym c); counts = put_same next own put n }
 
     -- ---- what it did
 
@@ -151,13 +152,13 @@ module _ (k : Known) (r : List Entry) (f : FitsRecord k r) (right : IsRight k r)
         by_deed : GotDeed (channel r) x (channel (x ∷ r)) → deed (channel r) x ≡ Nothing
         by_deed (IsLost d c) = absurd (e (sym changes ∙ c))
         by_deed (IsTaken o d c) = absurd (let g : (Some o ≡ None) = sym (ap taken_in d) ∙ t.gives ∙ n in cc)
-        by_deed (IsNone d c) = deed_is (channel r) x ∙ ap (as_counted (last_in (channel r))) d
+        by_deed (IsNone d c) = deed_is (channel r) x ∙ ap (as_counted (own_in (channel r)) (last_in (channel r))) d
 
     pub did_lose : change_told told ≡ Ends → deed (channel r) x ≡ Loses
     did_lose e = by_deed (got_deed (channel r) octets now)
       where
         by_deed : GotDeed (channel r) x (channel (x ∷ r)) → deed (channel r) x ≡ Loses
-        by_deed (IsLost d c) = deed_is (channel r) x ∙ ap (as_counted (last_in (channel r))) d
+        by_deed (IsLost d c) = deed_is (channel r) x ∙ ap (as_counted (own_in (channel r)) (last_in (channel r))) d
         by_deed (IsTaken o d c) = absurd (let g : (Stays ≡ Ends) = sym c ∙ changes ∙ e in cc)
         by_deed (IsNone d c) = absurd (c (changes ∙ e))
 
@@ -182,7 +183,7 @@ module _ (k : Known) (r : List Entry) (f : FitsRecord k r) (right : IsRight k r)
   row_dropped counted q t cs = record {
     so = record {
       right = calm_right took.Dropped counted t cs (drops counted) (dropped_up took.Dropped counted t cs refl) refl refl;
-      fits = λ u. fits_next took.Dropped counted t cs (drops counted) (end_now took.Dropped counted t cs (record { over = over; up = fits_not_lost k.channel (channel r) f.end })) (flies_same took.Dropped counted t cs (drops counted) refl refl (λ h. absurd (cc)) (t.acked over) (t.confirms over))
+      fits = λ u. fits_next took.Dropped counted t cs (drops counted) (end_now took.Dropped counted t cs (record { over = over; up = fits_not_lost k.channel (channel r) f.end })) (flies_same took.Dropped counted t cs (drops counted) refl refl refl (λ h. absurd (cc)) (t.acked over) (t.confirms over))
           (failed_stay took.Dropped counted t cs (inl refl)) (few_stay took.Dropped counted t cs (inl refl)) refl (unparted took.Dropped counted t cs (λ h. absurd (cc)));
     };
     tells = refl;
@@ -194,14 +195,15 @@ module _ (k : Known) (r : List Entry) (f : FitsRecord k r) (right : IsRight k r)
   unfolding after_took
   row_up tunnel counted q t cs =
       let none : (tries (x ∷ r) ≡ []) = opened_tries (channel r) (channel (x ∷ r)) (tries r) (changes (took.Up tunnel) counted t cs) in
-      let next : Known = record counted { tries = Zero; flight = none_in_flight; put = None } in record {
+      let opened : opens (channel r) (channel (x ∷ r)) x ≡ Some tunnel = opens_so k.channel frame octets now tunnel (channel r) (channel (x ∷ r)) f.end over is q (changes (took.Up tunnel) counted t cs) in
+      let next : Known = record counted { tries = Zero; flight = none_in_flight; tunnel = Some tunnel; put = None } in record {
         so = record {
-          right = calm_right (took.Up tunnel) counted t cs (record counted { tries = Zero; flight = none_in_flight; put = None }) (undropped (took.Up tunnel) counted t cs refl) refl refl;
-          fits = λ u. fits_next (took.Up tunnel) counted t cs (record counted { tries = Zero; flight = none_in_flight; put = None }) (end_now (took.Up tunnel) counted t cs (given_in frame now)) (record { acknowledged = sym (t.acked over); confirmed = sym (t.confirms over); put = opened_put (channel r) octets now (changes (took.Up tunnel) counted t cs) })
+          right = calm_right (took.Up tunnel) counted t cs (record counted { tries = Zero; flight = none_in_flight; tunnel = Some tunnel; put = None }) (undropped (took.Up tunnel) counted t cs refl) refl refl;
+          fits = λ u. fits_next (took.Up tunnel) counted t cs (record counted { tries = Zero; flight = none_in_flight; tunnel = Some tunnel; put = None }) (end_now (took.Up tunnel) counted t cs (given_in frame now)) (record { acknowledged = sym (t.acked over); confirmed = sym (t.confirms over); counts = opened_put tunnel (channel r) octets now (changes (took.Up tunnel) counted t cs) opened })
               (sym none) (rw none (omega arith)) refl (unparted (took.Up tunnel) counted t cs (λ h. absurd (cc)));
         };
         tells = refl;
-        got = (record { got = refl; drops = t.drops }, opens_so k.channel frame octets now tunnel (channel r) (channel (x ∷ r)) f.end over is q (changes (took.Up tunnel) counted t cs));
+        got = (record { got = refl; drops = t.drops }, opened);
         does = λ m l w n a. (all_nothing m l _ (did_nothing (took.Up tunnel) counted t cs refl (λ h. absurd (cc))) w a, refl);
       }
 
@@ -213,7 +215,7 @@ module _ (k : Known) (r : List Entry) (f : FitsRecord k r) (right : IsRight k r)
         so = record {
           right = right_next (took.RefusedBy status) counted t cs (tried (try.Status status) counted) (undropped (took.RefusedBy status) counted t cs refl) refl (rw more (refused_fits counted.tries (try.Status status) few));
           fits = λ u. fits_next (took.RefusedBy status) counted t cs (tried (try.Status status) counted) (end_now (took.RefusedBy status) counted t cs (record { over = refl; up = tt }))
-              (flies_same (took.RefusedBy status) counted t cs (tried (try.Status status) counted) refl refl (λ h. absurd (cc)) (t.acked over) (t.confirms over))
+              (flies_same (took.RefusedBy status) counted t cs (tried (try.Status status) counted) refl refl refl (λ h. absurd (cc)) (t.acked over) (t.confirms over))
               (more_tries counted.tries (try.Status status) few ∙ sym more) (rw more (still_few counted.tries (try.Status status) u)) refl (unparted (took.RefusedBy status) counted t cs (λ h. absurd (cc)));
         };
         tells = refl;
@@ -227,7 +229,7 @@ module _ (k : Known) (r : List Entry) (f : FitsRecord k r) (right : IsRight k r)
     so = record {
       right = calm_right took.Acked counted t cs (after_told now took.Acked counted) (undropped took.Acked counted t cs refl) refl refl;
       fits = λ u. fits_next took.Acked counted t cs (after_told now took.Acked counted) (end_now took.Acked counted t cs (acked_in now k.channel (record { over = over; up = fits_not_lost k.channel (channel r) f.end })))
-          (record { acknowledged = sym (t.acked over); confirmed = rw cs.flight_is (f.confirmed ∙ sym (t.confirms over)); put = put_same took.Acked counted t cs (after_told now took.Acked counted) refl (λ h. absurd (cc)) }) (failed_stay took.Acked counted t cs (inl refl)) (few_stay took.Acked counted t cs (inl refl)) refl (unparted took.Acked counted t cs (λ h. absurd (cc)));
+          (record { acknowledged = sym (t.acked over); confirmed = rw cs.flight_is (f.confirmed ∙ sym (t.confirms over)); counts = put_same took.Acked counted t cs (after_told now took.Acked counted) refl refl (λ h. absurd (cc)) }) (failed_stay took.Acked counted t cs (inl refl)) (few_stay took.Acked counted t cs (inl refl)) refl (unparted took.Acked counted t cs (λ h. absurd (cc)));
     };
     tells = refl;
     got = (record { got = refl; drops = t.drops }, opens_nothing took.Acked counted t cs (λ h. absurd (cc)));
@@ -240,7 +242,7 @@ module _ (k : Known) (r : List Entry) (f : FitsRecord k r) (right : IsRight k r)
     so = record {
       right = calm_right took.Alive counted t cs counted (undropped took.Alive counted t cs refl) refl refl;
       fits = λ u. fits_next took.Alive counted t cs counted (end_now took.Alive counted t cs (alive_in now k.channel (record { over = over; up = fits_not_lost k.channel (channel r) f.end })))
-          (flies_same took.Alive counted t cs counted refl refl (λ h. absurd (cc)) (t.acked over) (t.confirms over)) (failed_stay took.Alive counted t cs (inl refl)) (few_stay took.Alive counted t cs (inl refl)) refl (unparted took.Alive counted t cs (λ h. absurd (cc)));
+          (flies_same took.Alive counted t cs counted refl refl refl (λ h. absurd (cc)) (t.acked over) (t.confirms over)) (failed_stay took.Alive counted t cs (inl refl)) (few_stay took.Alive counted t cs (inl refl)) refl (unparted took.Alive counted t cs (λ h. absurd (cc)));
     };
     tells = refl;
     got = (record { got = refl; drops = t.drops }, opens_nothing took.Alive counted t cs (λ h. absurd (cc)));

@@ -9,13 +9,14 @@ use Rattle.line_model.specs.declared.client_end.ChannelTook.TheVariants as took
 use Rattle.line_model.specs.Reading.{datagram_in, ldata_in, is_con, is_connect_request, disconnect_request_in}
 use Rattle.line_model.specs.Record.{Put, Entry, entry}
 use Rattle.line_model.specs.ClientView as seen
-use Rattle.line_model.specs.ClientView.{ClientChannel, channel, Deed, Takes, Loses, Nothing, traffic, deed}
+use Rattle.line_model.specs.ClientView.{ClientChannel, channel, Deed, Takes, Loses, Nothing, is_stray, traffic, deed}
 use Rattle.line_model.specs.Moments.{Moment}
 use Rattle.line_model.specs.Signs.{Every}
 use Rattle.line_model.specs.ClientEnd.{ClientEnd, Idle, Seeking, Open, Leaving, JustLost, is_over}
 use Rattle.line_model.specs.ClientFrames.{gone, channel_took, after_took}
 use Rattle.line_model.specs.Leaves.{parting_of, PartsSo}
 use Rattle.line_model.specs.ChannelLost.{is_confirmation_of}
+use Rattle.line_model.proofs.Strays.{con_stray}
 use Rattle.tunnel_channel.specs.Fits.{FitsChannel, last_in}
 use Rattle.tunnel_channel.specs.Follows.{Ends, Stays, change_told, answer_in, acknowledgement_in}
 use Rattle.tunnel_channel.proofs.Frames.{leave_read}
@@ -52,7 +53,7 @@ module _ (k : Known) (r : List Entry) (f : FitsRecord k r) (right : IsRight k r)
   unfolding after_took
   row_again ack counted q t cs = record {
     so = sends_ack (took.Again ack) counted counted t cs ack refl refl refl (calm_right k r f right calm octets frame now is over (took.Again ack) counted t cs counted (undropped k r f right calm octets frame now is over (took.Again ack) counted t cs refl) refl refl)
-        (flies_same k r f right calm octets frame now is over (took.Again ack) counted t cs counted refl refl (λ h. absurd (cc)) (t.acked over) (t.confirms over)) refl refl;
+        (flies_same k r f right calm octets frame now is over (took.Again ack) counted t cs counted refl refl refl (λ h. absurd (cc)) (t.acked over) (t.confirms over)) refl refl;
     tells = rw (t.asks_not ack refl) refl;
     got = (record { got = refl; drops = t.drops }, opens_nothing k r f right calm octets frame now is over (took.Again ack) counted t cs (λ h. absurd (cc)));
     does = λ m l w n a. all_nothing k r f right calm octets frame now is over m l _ (did_nothing k r f right calm octets frame now is over (took.Again ack) counted t cs refl (λ h. absurd (cc))) w a;
@@ -66,36 +67,47 @@ module _ (k : Known) (r : List Entry) (f : FitsRecord k r) (right : IsRight k r)
   row_unread : (cemi ack : List ℕ) → ldata_in cemi ≡ None → Row k r f right calm octets frame now is over (took.Cemi cemi ack)
   unfolding after_took
   row_unread cemi ack m counted q t cs =
-      let last : last_in (channel r) ≡ k.put = last_is k.put (channel r) (x k r f right calm octets frame now is over) cemi f.put (took_is cemi ack counted t cs) in
-      let did : (deed (channel r) (x k r f right calm octets frame now is over) ≡ Takes cemi) = taken_deed k.put (channel r) (x k r f right calm octets frame now is over) cemi f.put (took_is cemi ack counted t cs) ∙ rw m refl in
+      let last : last_in (channel r) ≡ k.put = last_is k.tunnel k.put (channel r) (x k r f right calm octets frame now is over) cemi f.counts (took_is cemi ack counted t cs) in
+      let did : (deed (channel r) (x k r f right calm octets frame now is over) ≡ Takes cemi) = taken_deed k.tunnel k.put (channel r) (x k r f right calm octets frame now is over) cemi f.counts (took_is cemi ack counted t cs) ∙ rw m refl in
       let stays : is_confirmation_of (last_in (channel r)) (ldata_in cemi) ≡ false = ap (is_confirmation_of (last_in (channel r))) m ∙ unread_confirms (last_in (channel r)) in
       rw m (record {
         so = sends_ack (took.Cemi cemi ack) counted (drops counted) t cs ack refl refl refl (calm_right k r f right calm octets frame now is over (took.Cemi cemi ack) counted t cs (drops counted) (dropped_up k r f right calm octets frame now is over (took.Cemi cemi ack) counted t cs (rw m refl)) refl refl)
-            (flies_same k r f right calm octets frame now is over (took.Cemi cemi ack) counted t cs (drops counted) refl refl (λ h. absurd (cc)) (t.acked over) (t.confirms over ∙ rw stays refl)) refl refl;
+            (flies_same k r f right calm octets frame now is over (took.Cemi cemi ack) counted t cs (drops counted) refl refl refl (λ h. absurd (cc)) (t.acked over) (t.confirms over ∙ rw stays refl)) refl refl;
         tells = rw (t.asks_not ack refl) refl;
         got = (record { got = refl; drops = t.drops ∙ rw m refl }, opens_nothing k r f right calm octets frame now is over (took.Cemi cemi ack) counted t cs (λ h. absurd (cc)));
         does = λ e l w n a. inr (record { newer = []; m = e; older = l; all = refl; is = record { octets = cemi; takes = w ∙ did; unread = m }; newer_nothing = tt; older_nothing = a }, refl);
       })
 
-  row_frame : (cemi ack : List ℕ) (ldata : Ldata) → ldata_in cemi ≡ Some ldata → is_con ldata.code ≡ false → Row k r f right calm octets frame now is over (took.Cemi cemi ack)
+  row_frame : (cemi ack : List ℕ) (ldata : Ldata) (b : Bool) → ldata_in cemi ≡ Some ldata → is_con ldata.code ≡ false → is_stray k.tunnel (Some ldata) ≡ b → Row k r f right calm octets frame now is over (took.Cemi cemi ack)
   unfolding after_took
-  row_frame cemi ack ldata m c counted q t cs =
-      let did : (deed (channel r) (x k r f right calm octets frame now is over) ≡ Takes cemi) = taken_deed k.put (channel r) (x k r f right calm octets frame now is over) cemi f.put (took_is cemi ack counted t cs) ∙ rw (m, c) refl in
+  row_frame cemi ack ldata false m c own counted q t cs =
+      let did : (deed (channel r) (x k r f right calm octets frame now is over) ≡ Takes cemi) = taken_deed k.tunnel k.put (channel r) (x k r f right calm octets frame now is over) cemi f.counts (took_is cemi ack counted t cs) ∙ rw (m, own, c) refl in
       let stays : is_confirmation_of (last_in (channel r)) (ldata_in cemi) ≡ false = ap (is_confirmation_of (last_in (channel r))) m ∙ other_confirms (last_in (channel r)) ldata c in
-      rw (m, c) (record {
+      rw (m, c, own) (record {
         so = sends_ack (took.Cemi cemi ack) counted counted t cs ack refl refl refl (calm_right k r f right calm octets frame now is over (took.Cemi cemi ack) counted t cs counted (undropped k r f right calm octets frame now is over (took.Cemi cemi ack) counted t cs (rw m refl)) refl refl)
-            (flies_same k r f right calm octets frame now is over (took.Cemi cemi ack) counted t cs counted refl refl (λ h. absurd (cc)) (t.acked over) (t.confirms over ∙ rw stays refl)) refl refl;
+            (flies_same k r f right calm octets frame now is over (took.Cemi cemi ack) counted t cs counted refl refl refl (λ h. absurd (cc)) (t.acked over) (t.confirms over ∙ rw stays refl)) refl refl;
         tells = rw (t.asks_not ack refl) refl;
         got = (record { got = refl; drops = t.drops ∙ rw m refl }, opens_nothing k r f right calm octets frame now is over (took.Cemi cemi ack) counted t cs (λ h. absurd (cc)), record { octets = cemi; taken = did; reads = m });
         does = λ e l w n a. (record { newer = []; m = e; older = l; all = refl; is = record { octets = cemi; takes = w ∙ did; reads = m; then = n }; newer_nothing = tt; older_nothing = a }, refl);
+      })
+  -- an indication to another device
+  row_frame cemi ack ldata true m c own counted q t cs =
+      let did : (deed (channel r) (x k r f right calm octets frame now is over) ≡ Nothing) = taken_deed k.tunnel k.put (channel r) (x k r f right calm octets frame now is over) cemi f.counts (took_is cemi ack counted t cs) ∙ rw (m, own) refl in
+      let stays : is_confirmation_of (last_in (channel r)) (ldata_in cemi) ≡ false = ap (is_confirmation_of (last_in (channel r))) m ∙ other_confirms (last_in (channel r)) ldata c in
+      rw (m, c, own) (record {
+        so = sends_ack (took.Cemi cemi ack) counted counted t cs ack refl refl refl (calm_right k r f right calm octets frame now is over (took.Cemi cemi ack) counted t cs counted (undropped k r f right calm octets frame now is over (took.Cemi cemi ack) counted t cs (rw m refl)) refl refl)
+            (flies_same k r f right calm octets frame now is over (took.Cemi cemi ack) counted t cs counted refl refl refl (λ h. absurd (cc)) (t.acked over) (t.confirms over ∙ rw stays refl)) refl refl;
+        tells = rw (t.asks_not ack refl) refl;
+        got = (record { got = refl; drops = t.drops ∙ rw m refl }, opens_nothing k r f right calm octets frame now is over (took.Cemi cemi ack) counted t cs (λ h. absurd (cc)));
+        does = λ e l w n a. all_nothing k r f right calm octets frame now is over e l _ did w a;
       })
 
   -- a confirmation, of the request put last or of another
   row_con : (cemi ack : List ℕ) (ldata : Ldata) (b : Bool) → ldata_in cemi ≡ Some ldata → is_con ldata.code ≡ true → is_confirmation_of k.put (Some ldata) ≡ b → Row k r f right calm octets frame now is over (took.Cemi cemi ack)
   unfolding after_took
   row_con cemi ack ldata true m c own counted q t cs =
-      let last : last_in (channel r) ≡ k.put = last_is k.put (channel r) (x k r f right calm octets frame now is over) cemi f.put (took_is cemi ack counted t cs) in
-      let did : (deed (channel r) (x k r f right calm octets frame now is over) ≡ Takes cemi) = taken_deed k.put (channel r) (x k r f right calm octets frame now is over) cemi f.put (took_is cemi ack counted t cs) ∙ rw (m, c, own) refl in
+      let last : last_in (channel r) ≡ k.put = last_is k.tunnel k.put (channel r) (x k r f right calm octets frame now is over) cemi f.counts (took_is cemi ack counted t cs) in
+      let did : (deed (channel r) (x k r f right calm octets frame now is over) ≡ Takes cemi) = taken_deed k.tunnel k.put (channel r) (x k r f right calm octets frame now is over) cemi f.counts (took_is cemi ack counted t cs) ∙ rw (m, con_stray k.tunnel (Some ldata) c, c, own) refl in
       let comes : is_confirmation_of (last_in (channel r)) (ldata_in cemi) ≡ true = ap (is_confirmation_of (last_in (channel r))) m ∙ ap (λ o. is_confirmation_of o (Some ldata)) last ∙ own in
       let next : Known = record counted { flight = record counted.flight { confirmed = true } } in
       let its : is_confirmation_of counted.put (Some ldata) ≡ true = ap (λ o. is_confirmation_of o (Some ldata)) cs.put_is ∙ own in
@@ -105,20 +117,20 @@ module _ (k : Known) (r : List Entry) (f : FitsRecord k r) (right : IsRight k r)
             (record {
               acknowledged = rw cs.flight_is (f.acknowledged ∙ sym (t.acked over));
               confirmed = sym (t.confirms over ∙ rw comes refl);
-              put = put_same k r f right calm octets frame now is over (took.Cemi cemi ack) counted t cs (record counted { flight = record counted.flight { confirmed = true } }) refl (λ h. absurd (cc));
+              counts = put_same k r f right calm octets frame now is over (took.Cemi cemi ack) counted t cs (record counted { flight = record counted.flight { confirmed = true } }) refl refl (λ h. absurd (cc));
             }) refl refl;
         tells = rw (t.asks_not ack refl) refl;
         got = (record { got = refl; drops = t.drops ∙ rw m refl }, opens_nothing k r f right calm octets frame now is over (took.Cemi cemi ack) counted t cs (λ h. absurd (cc)), record { octets = cemi; taken = did; reads = m });
         does = λ e l w n a. (record { newer = []; m = e; older = l; all = refl; is = record { octets = cemi; takes = w ∙ did; reads = m; then = n }; newer_nothing = tt; older_nothing = a }, refl);
       })
   row_con cemi ack ldata false m c own counted q t cs =
-      let last : last_in (channel r) ≡ k.put = last_is k.put (channel r) (x k r f right calm octets frame now is over) cemi f.put (took_is cemi ack counted t cs) in
-      let did : (deed (channel r) (x k r f right calm octets frame now is over) ≡ Nothing) = taken_deed k.put (channel r) (x k r f right calm octets frame now is over) cemi f.put (took_is cemi ack counted t cs) ∙ rw (m, c, own) refl in
+      let last : last_in (channel r) ≡ k.put = last_is k.tunnel k.put (channel r) (x k r f right calm octets frame now is over) cemi f.counts (took_is cemi ack counted t cs) in
+      let did : (deed (channel r) (x k r f right calm octets frame now is over) ≡ Nothing) = taken_deed k.tunnel k.put (channel r) (x k r f right calm octets frame now is over) cemi f.counts (took_is cemi ack counted t cs) ∙ rw (m, con_stray k.tunnel (Some ldata) c, c, own) refl in
       let stays : is_confirmation_of (last_in (channel r)) (ldata_in cemi) ≡ false = ap (is_confirmation_of (last_in (channel r))) m ∙ ap (λ o. is_confirmation_of o (Some ldata)) last ∙ own in
       let its : is_confirmation_of counted.put (Some ldata) ≡ false = ap (λ o. is_confirmation_of o (Some ldata)) cs.put_is ∙ own in
       rw (m, c, its, own) (record {
         so = sends_ack (took.Cemi cemi ack) counted counted t cs ack refl refl refl (calm_right k r f right calm octets frame now is over (took.Cemi cemi ack) counted t cs counted (undropped k r f right calm octets frame now is over (took.Cemi cemi ack) counted t cs (rw m refl)) refl refl)
-            (flies_same k r f right calm octets frame now is over (took.Cemi cemi ack) counted t cs counted refl refl (λ h. absurd (cc)) (t.acked over) (t.confirms over ∙ rw stays refl)) refl refl;
+            (flies_same k r f right calm octets frame now is over (took.Cemi cemi ack) counted t cs counted refl refl refl (λ h. absurd (cc)) (t.acked over) (t.confirms over ∙ rw stays refl)) refl refl;
         tells = rw (t.asks_not ack refl) refl;
         got = (record { got = refl; drops = t.drops ∙ rw m refl }, opens_nothing k r f right calm octets frame now is over (took.Cemi cemi ack) counted t cs (λ h. absurd (cc)));
         does = λ e l w n a. all_nothing k r f right calm octets frame now is over e l _ did w a;
@@ -130,7 +142,7 @@ module _ (k : Known) (r : List Entry) (f : FitsRecord k r) (right : IsRight k r)
     where
       by_code : (b : Bool) → is_con ldata.code ≡ b → Row k r f right calm octets frame now is over (took.Cemi cemi ack)
       by_code true c = row_con cemi ack ldata (is_confirmation_of k.put (Some ldata)) m c refl
-      by_code false c = row_frame cemi ack ldata m c
+      by_code false c = row_frame cemi ack ldata (is_stray k.tunnel (Some ldata)) m c refl
 
   pub row_cemi : (cemi ack : List ℕ) → Row k r f right calm octets frame now is over (took.Cemi cemi ack)
   row_cemi cemi ack = by_reading cemi ack (ldata_in cemi) refl
@@ -217,12 +229,12 @@ module _ (k : Known) (r : List Entry) (f : FitsRecord k r) (right : IsRight k r)
       same_lost a b h = cc
 
   gone_so : (counted : Known) (t : Frame k r f right calm octets frame now is over (took.Gone None)) (cs : IsCounted k counted (after_took k.channel frame now (took.Gone None)) (x k r f right calm octets frame now is over ∷ r)) → channel_took k.channel frame now ≡ took.Gone None → InTimeAt (channel r) now → (end : ClientEnd) → gone k.channel frame ≡ end → counted.channel ≡ end → IsDown end
-      → FitsChannel end now (channel (x k r f right calm octets frame now is over ∷ r)) → TakenSo (left counted) (told_answer (took.Gone None) k.put counted.channel) r (x k r f right calm octets frame now is over)
+      → FitsChannel end now (channel (x k r f right calm octets frame now is over ∷ r)) → TakenSo (left counted) (told_answer (took.Gone None) k.tunnel k.put counted.channel) r (x k r f right calm octets frame now is over)
   gone_so counted t cs q timely Idle goes at d g = rw at (record {
     so = record {
       right = calm_right k r f right calm octets frame now is over (took.Gone None) counted t cs (record counted { channel = Idle; flight = none_in_flight }) (undropped k r f right calm octets frame now is over (took.Gone None) counted t cs refl) refl refl;
       fits = λ u. fits_next k r f right calm octets frame now is over (took.Gone None) counted t cs (record counted { channel = Idle; flight = none_in_flight }) g
-          (record { acknowledged = sym (t.acked over); confirmed = sym (t.confirms over); put = put_same k r f right calm octets frame now is over (took.Gone None) counted t cs (record counted { channel = Idle; flight = none_in_flight }) refl (λ h. absurd (cc)) })
+          (record { acknowledged = sym (t.acked over); confirmed = sym (t.confirms over); counts = put_same k r f right calm octets frame now is over (took.Gone None) counted t cs (record counted { channel = Idle; flight = none_in_flight }) refl refl (λ h. absurd (cc)) })
           (failed_stay k r f right calm octets frame now is over (took.Gone None) counted t cs (inr refl)) (few_stay k r f right calm octets frame now is over (took.Gone None) counted t cs (inr refl)) refl
           (left_parted (ending (channel r) (channel (x k r f right calm octets frame now is over ∷ r)) (changes k r f right calm octets frame now is over (took.Gone None) counted t cs)) q goes
           (its_parts timely (ending (channel r) (channel (x k r f right calm octets frame now is over ∷ r)) (changes k r f right calm octets frame now is over (took.Gone None) counted t cs))));

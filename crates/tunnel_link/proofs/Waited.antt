@@ -189,7 +189,7 @@ module _ (k : Known) (r : List Entry) (f : FitsRecord k r) (what : Item) (now : 
           current = polls_are_current r what now poll;
           acknowledged = f.acknowledged ∙ sym rests.still.acked;
           confirmed = f.confirmed ∙ sym rests.still.confirms;
-          put = poll_put k.put (channel r) what now poll (unread_opens (channel r) what now poll n) f.put;
+          counts = poll_put k.tunnel k.put (channel r) what now poll (unread_opens (channel r) what now poll n) f.counts;
           failed = f.failed ∙ sym (rests.failed (tries r));
           few = rw (rests.failed (tries r)) f.few;
           paid = unread_owes r (entry what now) n;

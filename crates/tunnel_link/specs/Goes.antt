@@ -50,7 +50,7 @@ pub record Goes (before after : Story) : Type 0 where
 -- ---- what the client knows at first
 
 abbrev pub new_known : Known
-new_known = record { channel = Idle; flight = none_in_flight; put = None; tries = Zero; dropped = 0; taken = 0; fault = None }
+new_known = record { channel = Idle; flight = none_in_flight; tunnel = None; put = None; tries = Zero; dropped = 0; taken = 0; fault = None }
 
 -- ---- all that is kept
 

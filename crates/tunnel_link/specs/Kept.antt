@@ -1,6 +1,7 @@
 -- What the client keeps of the tunnel beside its end of the channel: what came of the request that it put last, how the tries to get a channel
 -- failed, and how many datagrams were dropped and got. And what each call leaves it knowing: one equation a call.
 use Rattle.std.specs.Prelude.{ℕ, ◌+◌, ◌-◌, ◌^◌, min, Bool, true, false, ◌&&◌, ◌||◌, is_some, List, [], ◌∷◌, Option, Some, None, if◌then◌else◌}
+use Rattle.knx_model.specs.declared.address.IndAddr.{IndAddr}
 use Rattle.knx_model.specs.declared.frames.cemi.Ldata.{Ldata}
 use Rattle.knx_model.specs.declared.frames.ip.IpFrame.{IpFrame}
 use Rattle.knx_model.specs.declared.frames.ip.IpFrame.TheVariants.{StateResponse}
@@ -15,6 +16,7 @@ use Rattle.line_model.specs.declared.fault.Try.{Try}
 use Rattle.line_model.specs.declared.fault.Try.TheVariants as try
 use Rattle.line_model.specs.Reading.{datagram_in, ldata_in, is_con}
 use Rattle.line_model.specs.ChannelLost.{confirmation_wait, is_unconfirmed, is_confirmation_of}
+use Rattle.line_model.specs.ClientView.{is_stray}
 use Rattle.line_model.specs.ClientEnd.{ClientEnd, Seeking, open_end, is_over, channel_deadline, lost, channel_put, after_put, channel_expired, after_expired, channel_left, after_leave}
 use Rattle.line_model.specs.ClientFrames.{channel_took, after_took}
 use Rattle.tunnel_link.specs.declared.came.Answer.{Answer}
@@ -172,7 +174,8 @@ answers_heartbeat frame told = false
 abbrev pub counted : IpFrame → ChannelTook → Known → Known
 counted frame told k = if answers_heartbeat frame told then k else counts k
 
--- the frame of the link layer in the gateway's next request: a confirmation that isn't that of the request put last is for no one
+-- the frame of the link layer in the gateway's next request: a confirmation that isn't that of the request put last is for no one, and so is an
+-- indication to another device than the tunnel
 abbrev pub confirmed_if : Bool → Known → Known
 confirmed_if its_own k = if its_own then record k { flight = record k.flight { confirmed = true } } else k
 
@@ -180,13 +183,15 @@ abbrev pub with_heard : Option Ldata → Known → Known
 with_heard None k = drops k
 with_heard (Some frame) k = if is_con frame.code then confirmed_if (is_confirmation_of k.put (Some frame)) k else k
 
-abbrev pub what_heard : Option Ldata → Option Ldata → What
-what_heard put None = came.Dropped
-what_heard put (Some frame) = if is_con frame.code then (if is_confirmation_of put (Some frame) then came.Frame frame else came.Tunnel) else came.Frame frame
+abbrev pub what_heard : Option IndAddr → Option Ldata → Option Ldata → What
+what_heard own put None = came.Dropped
+what_heard own put (Some frame) =
+    if is_con frame.code then (if is_confirmation_of put (Some frame) then came.Frame frame else came.Tunnel)
+    else (if is_stray own (Some frame) then came.Tunnel else came.Frame frame)
 
 abbrev pub after_told : ℕ → ChannelTook → Known → Known
 after_told now took.Dropped k = drops k
-after_told now (took.Up tunnel) k = record k { tries = Zero; flight = none_in_flight; put = None }
+after_told now (took.Up tunnel) k = record k { tries = Zero; flight = none_in_flight; tunnel = Some tunnel; put = None }
 after_told now (took.RefusedBy status) k = tried (try.Status status) k
 after_told now took.Acked k = record k { flight = record k.flight { acknowledged = Some now } }
 after_told now (took.Cemi octets ack) k = with_heard (ldata_in octets) k
@@ -195,16 +200,16 @@ after_told now (took.Gone None) k = left k
 after_told now (took.Gone (Some answer)) k = record k { flight = none_in_flight }
 after_told now took.Alive k = k
 
-abbrev pub told_answer : ChannelTook → Option Ldata → ClientEnd → Answer
-told_answer took.Dropped put end = only came.Dropped
-told_answer (took.Up tunnel) put end = only (came.Up tunnel)
-told_answer (took.RefusedBy status) put end = only came.Tunnel
-told_answer took.Acked put end = only came.Tunnel
-told_answer (took.Cemi octets ack) put end = with_datagram (what_heard put (ldata_in octets)) ack
-told_answer (took.Again ack) put end = with_datagram came.Tunnel ack
-told_answer (took.Gone None) put end = loss_answer came.Tunnel end
-told_answer (took.Gone (Some answer)) put end = record { what = came.Tunnel; loss = Ended; sends = Some answer }
-told_answer took.Alive put end = only came.Tunnel
+abbrev pub told_answer : ChannelTook → Option IndAddr → Option Ldata → ClientEnd → Answer
+told_answer took.Dropped own put end = only came.Dropped
+told_answer (took.Up tunnel) own put end = only (came.Up tunnel)
+told_answer (took.RefusedBy status) own put end = only came.Tunnel
+told_answer took.Acked own put end = only came.Tunnel
+told_answer (took.Cemi octets ack) own put end = with_datagram (what_heard own put (ldata_in octets)) ack
+told_answer (took.Again ack) own put end = with_datagram came.Tunnel ack
+told_answer (took.Gone None) own put end = loss_answer came.Tunnel end
+told_answer (took.Gone (Some answer)) own put end = record { what = came.Tunnel; loss = Ended; sends = Some answer }
+told_answer took.Alive own put end = only came.Tunnel
 
 abbrev pub with_channel_of : Known → IpFrame → ℕ → Known
 with_channel_of k frame now = record k { channel = after_took k.channel frame now (channel_took k.channel frame now) }
@@ -213,7 +218,7 @@ unfoldable pub taken : Known → IpFrame → ℕ → Known
 taken k frame now = after_told now (channel_took k.channel frame now) (counted frame (channel_took k.channel frame now) (with_channel_of k frame now))
 
 unfoldable pub take_answer : Known → IpFrame → ℕ → Answer
-take_answer k frame now = told_answer (channel_took k.channel frame now) k.put (with_channel_of k frame now).channel
+take_answer k frame now = told_answer (channel_took k.channel frame now) k.tunnel k.put (with_channel_of k frame now).channel
 
 -- ---- a datagram: where the time has ended what it would act on, it is dropped
 

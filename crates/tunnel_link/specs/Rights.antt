@@ -3,16 +3,18 @@
 -- knows is what the record says.
 use Rattle.std.specs.Prelude.{◌≡◌, ℕ, ◌<◌, ◌^◌, ◌-◌, min, Bool, true, false, not, ◌&&◌, is_none, List, [], ◌∷◌, length, reverse, Option, Some, None}
 use Rattle.knx_model.specs.Outside.{Rose}
+use Rattle.knx_model.specs.declared.address.IndAddr.{IndAddr}
 use Rattle.knx_model.specs.declared.frames.cemi.Ldata.{Ldata}
 use Rattle.line_model.specs.declared.fault.HubFault.{HubFault}
 use Rattle.line_model.specs.declared.fault.HubFault.TheVariants.{NoMemory, LinkFailed, GatewayRefused, Flooded, WrongLine}
 use Rattle.line_model.specs.declared.fault.Try.{Try}
 use Rattle.line_model.specs.declared.outside.link.LinkFault.{LinkFault}
 use Rattle.line_model.specs.declared.outside.link.LinkFault.TheVariants as link
+use Rattle.line_model.specs.declared.outside.link_counts.LinkCounts.{LinkCounts}
 use Rattle.line_model.specs.Record.{Entry, Placed, entries}
 use Rattle.line_model.specs.LinkStory.{Story, places_in, newest_time}
 use Rattle.line_model.specs.ClientView as seen
-use Rattle.line_model.specs.ClientView.{ClientChannel, channel}
+use Rattle.line_model.specs.ClientView.{ClientChannel, channel, own_address}
 use Rattle.line_model.specs.Renews.{RenewsRightly, AcknowledgesRightly, has_renewed, owed}
 use Rattle.line_model.specs.Sendings.{SendsRightly}
 use Rattle.line_model.specs.Leaves.{PartsRightly, parting_of}
@@ -20,7 +22,7 @@ use Rattle.line_model.specs.Dropped as drop
 use Rattle.line_model.specs.Faults.{tries, datagrams_taken}
 use Rattle.line_model.specs.ClientEnd.{ClientEnd, Idle, Seeking, Open, Leaving, JustLost, is_over, put_refused}
 use Rattle.line_model.specs.ChannelLost.{last_frame}
-use Rattle.tunnel_channel.specs.Fits.{HasNone, KnowsOpen, acknowledged_in, confirmed_in}
+use Rattle.tunnel_channel.specs.Fits.{HasBegun, HasNone, KnowsOpen, acknowledged_in, confirmed_in}
 use Rattle.tunnel_channel.specs.Follows.{IsCurrent}
 use Rattle.tunnel_link.specs.declared.known.Known.{Known}
 use Rattle.tunnel_link.specs.declared.tries.Tries.{Tries}
@@ -85,10 +87,10 @@ abbrev pub fault_by : LinkFault → HubFault
 fault_by (link.NoMemory want) = NoMemory want
 fault_by link.Failed = LinkFailed
 
--- that the link failed is told only where its count of faults rose
-abbrev pub FailsWhere : HubFault → ℕ → ℕ → Type 0
-FailsWhere (NoMemory want) old new = Unit {0}
-FailsWhere LinkFailed old new = Rose old new
+-- that the link failed, or had no memory, is told only where its count of that rose
+abbrev pub FailsWhere : HubFault → LinkCounts → LinkCounts → Type 0
+FailsWhere (NoMemory want) old new = Rose old.wanting new.wanting
+FailsWhere LinkFailed old new = Rose old.failed new.failed
 FailsWhere (GatewayRefused three) old new = Unit {0}
 FailsWhere Flooded old new = Unit {0}
 FailsWhere (WrongLine device tunnel) old new = Unit {0}
@@ -101,14 +103,14 @@ FitsNow (Open e) ch = KnowsOpen e false ch
 FitsNow (Leaving e) ch = KnowsOpen e true ch
 FitsNow (JustLost c) ch = ⊥
 
--- the frame that was put last in the open channel
-abbrev pub IsPutLast : Option Ldata → ClientChannel → Type 0
-IsPutLast put seen.Fresh = Unit {0}
-IsPutLast put (seen.Sought since) = Unit {0}
-IsPutLast put (seen.RefusedBy status) = Unit {0}
-IsPutLast put seen.Unanswered = Unit {0}
-IsPutLast put (seen.Open c l) = put ≡ last_frame c l
-IsPutLast put (seen.Lost c) = Unit {0}
+-- what is taken in the open channel counts by the frame that was put last in it, and by the tunnel's own address
+abbrev pub CountsBy : Option IndAddr → Option Ldata → ClientChannel → Type 0
+CountsBy tunnel put seen.Fresh = Unit {0}
+CountsBy tunnel put (seen.Sought since) = Unit {0}
+CountsBy tunnel put (seen.RefusedBy status) = Unit {0}
+CountsBy tunnel put seen.Unanswered = Unit {0}
+CountsBy tunnel put (seen.Open c l) = (put ≡ last_frame c l) × (tunnel ≡ own_address l) × HasBegun l
+CountsBy tunnel put (seen.Lost c) = Unit {0}
 
 -- ---- always
 
@@ -129,7 +131,7 @@ pub record FitsRecord (k : Known) (r : List Entry) : Type 0 where
   pub current : IsCurrent (channel r) (newest_time r)
   pub acknowledged : k.flight.acknowledged ≡ acknowledged_in (channel r)
   pub confirmed : k.flight.confirmed ≡ confirmed_in (channel r)
-  pub put : IsPutLast k.put (channel r)
+  pub counts : CountsBy k.tunnel k.put (channel r)
   pub failed : tries_of k.tries ≡ tries r
   pub few : length (tries r) < 3
   pub paid : owed r ≡ None

@@ -41,7 +41,7 @@ pub enum What {
     Quiet,
     /// A datagram that acts on nothing.
     Dropped,
-    /// A datagram that is for the tunnel alone, or a confirmation of another request than the one put last.
+    /// A datagram that is for the tunnel alone, a confirmation of another request than the one put last, or an indication to another device.
     Tunnel,
     /// The response that opened a channel, with the individual address of the tunnel.
     Up { tunnel: IndAddr },

@@ -3,6 +3,7 @@
 ghost use Rattle.std.specs.Prelude.{◌≡◌, true, Some};
 ghost use Rattle.line_model.specs.ClientFrames.{HasTunnelIfUp};
 ghost use Rattle.line_model.specs.ChannelLost.{is_alike, is_confirmation_of};
+ghost use Rattle.line_model.specs.ClientView.{is_stray, is_to};
 ghost use Rattle.line_model.specs.Reading.{ldata_in, is_con};
 ghost use Rattle.tunnel_link.specs.Kept.{after_got, got_answer, taken, take_answer, with_heard, what_heard, answers_heartbeat, drops, counts};
 
@@ -10,7 +11,7 @@ use crate::came::{Answer, Loss, What};
 use crate::flight::Flight;
 use crate::known::Known;
 use crate::tries::Tries;
-use knx_model::{Datagram, IpFrame, Ldata, LdataCode};
+use knx_model::{Datagram, IndAddr, IpFrame, Ldata, LdataCode};
 use line_frames::{datagram_in, ldata_in};
 use line_model::{ChannelTook, Try};
 
@@ -54,6 +55,7 @@ impl Known {
             ChannelTook::Up { tunnel } => {
                 self.tries = Tries::Zero;
                 self.flight = Flight::none();
+                self.tunnel = Some(tunnel);
                 self.put = None;
                 Answer::only(What::Up { tunnel })
             }
@@ -82,9 +84,10 @@ impl Known {
         }
     }
 
-    /// Takes the cEMI octets of the gateway's next request. A confirmation that isn't that of the request put last is for no one.
+    /// Takes the cEMI octets of the gateway's next request. A confirmation that isn't that of the request put last is for no one, and so is an
+    /// indication to another device than the tunnel.
     fn heard(&mut self, octets: &Datagram) -> What
-        ensures answer { result ≡ what_heard self.old.put (ldata_in octets.now) }
+        ensures answer { result ≡ what_heard self.old.tunnel self.old.put (ldata_in octets.now) }
         ensures next { self.new ≡ with_heard (ldata_in octets.now) self.old }
     {
         let Some(frame) = ldata_in(octets.as_slice()) else {
@@ -96,6 +99,8 @@ impl Known {
                 return What::Tunnel;
             }
             self.flight = self.flight.confirmed();
+        } else if is_stray(&self.tunnel, &frame) {
+            return What::Tunnel;
         }
         What::Frame(frame)
     }
@@ -130,6 +135,22 @@ fn is_alike(frame: &Ldata, con: &Ldata) -> bool
     con.group == frame.group
         && con.destination == frame.destination
         && con.tpdu.as_slice() == frame.tpdu.as_slice()
+}
+
+/// Whether an indication is to another device than the tunnel.
+fn is_stray(tunnel: &Option<IndAddr>, frame: &Ldata) -> bool
+    ensures { result ≡ is_stray tunnel.now (Some frame.now) }
+{
+    matches!(frame.code, LdataCode::Ind) && !frame.group && !is_to(tunnel, frame)
+}
+
+fn is_to(tunnel: &Option<IndAddr>, frame: &Ldata) -> bool
+    ensures { result ≡ is_to tunnel.now frame.now }
+{
+    match tunnel {
+        None => false,
+        Some(own) => frame.destination == own.raw,
+    }
 }
 
 /// Whether this is an awaited answer to a heartbeat.

@@ -11,17 +11,19 @@ ghost use Rattle.tunnel_link.specs.Rights.{IsntRefusal, IsOfLink, fault_by, has_
 
 use crate::flight::Flight;
 use crate::tries::Tries;
-use knx_model::{Datagram, Ldata};
+use knx_model::{Datagram, IndAddr, Ldata};
 use line_frames::ldata_in;
 use line_model::{ChannelExpired, HubFault, LinkFault};
 use tunnel_channel::Channel;
 
-/// What the client knows of its tunnel: its end of the channel, what came of the request that it put last, and its frame, how the tries since
-/// the last channel failed, how many datagrams were dropped and how many were got, awaited connection state responses aside, and why it has ended.
+/// What the client knows of its tunnel: its end of the channel, what came of the request that it put last, the tunnel's own address in the last
+/// channel, the frame of that request, how the tries since the last channel failed, how many datagrams were dropped and how many were got, awaited
+/// connection state responses aside, and why it has ended.
 #[derive(Drop)]
 pub struct Known {
     pub channel: Channel,
     pub flight: Flight,
+    pub tunnel: Option<IndAddr>,
     pub put: Option<Ldata>,
     pub tries: Tries,
     pub dropped: u64,
@@ -37,6 +39,7 @@ impl Known {
         Known {
             channel: Channel::new(),
             flight: Flight::none(),
+            tunnel: None,
             put: None,
             tries: Tries::Zero,
             dropped: 0,

@@ -2,6 +2,7 @@
 
 ghost use Rattle.std.specs.Prelude.{◌≡◌, ◌≤◌, IfErr, OnOk, Some, None};
 ghost use Rattle.line_model.specs.ClientEnd.{MayConnect};
+ghost use Rattle.line_model.specs.Polled.{NeverFall};
 ghost use Rattle.tunnel_link.specs.Calls.{SendsSo, ConnectsSo, PollsSo, AnswersSo, ListensSo};
 ghost use Rattle.tunnel_link.specs.Rights.{FailsWhere, IsOfTries};
 
@@ -17,7 +18,7 @@ const LONGEST: usize = 512;
 pub fn sent<L: Link>(link: &mut L, known: &mut Known, datagram: &Datagram) -> Result<(), HubFault>
     ensures so { SendsSo result datagram.now known.old known.new (L.story link.old) (L.story link.new) }
     ensures time { L.clock link.old ≤ L.clock link.new }
-    ensures count { L.faults link.old ≤ L.faults link.new }
+    ensures count { NeverFall (L.faults link.old) (L.faults link.new) }
     ensures events { L.place link.old ≤ L.place link.new }
     ensures script { L.script link.new ≡ L.script link.old }
     ensures cause { IfErr result (λ fault. FailsWhere fault (L.faults link.old) (L.faults link.new)) }
@@ -33,7 +34,7 @@ pub fn connected<L: Link>(link: &mut L, known: &mut Known) -> Result<(), HubFaul
     requires { MayConnect known.old.channel }
     ensures so { ConnectsSo result known.old known.new (L.story link.old) (L.story link.new) }
     ensures time { L.clock link.old ≤ L.clock link.new }
-    ensures count { L.faults link.old ≤ L.faults link.new }
+    ensures count { NeverFall (L.faults link.old) (L.faults link.new) }
     ensures events { L.place link.old ≤ L.place link.new }
     ensures script { L.script link.new ≡ L.script link.old }
     ensures cause { IfErr result (λ fault. FailsWhere fault (L.faults link.old) (L.faults link.new)) }
@@ -50,7 +51,7 @@ pub fn connected<L: Link>(link: &mut L, known: &mut Known) -> Result<(), HubFaul
 pub fn polled<L: Link>(link: &mut L, known: &mut Known, wait_ms: u32) -> Result<Answer, HubFault>
     ensures so { PollsSo result wait_ms known.old known.new (L.story link.old) (L.story link.new) }
     ensures time { L.clock link.old ≤ L.clock link.new }
-    ensures count { L.faults link.old ≤ L.faults link.new }
+    ensures count { NeverFall (L.faults link.old) (L.faults link.new) }
     ensures events { L.place link.old ≤ L.place link.new }
     ensures script { L.script link.new ≡ L.script link.old }
     ensures cause { IfErr result (λ fault. FailsWhere fault (L.faults link.old) (L.faults link.new)) }
@@ -77,7 +78,7 @@ pub fn answered<L: Link>(
 ) -> Result<(), HubFault>
     ensures so { AnswersSo result sends known.old known.new (L.story link.old) (L.story link.new) }
     ensures time { L.clock link.old ≤ L.clock link.new }
-    ensures count { L.faults link.old ≤ L.faults link.new }
+    ensures count { NeverFall (L.faults link.old) (L.faults link.new) }
     ensures events { L.place link.old ≤ L.place link.new }
     ensures script { L.script link.new ≡ L.script link.old }
     ensures cause { IsOfTries known.old.fault → IfErr result (λ fault. FailsWhere fault (L.faults link.old) (L.faults link.new)) }
@@ -95,7 +96,7 @@ pub fn answered<L: Link>(
 pub fn listened<L: Link>(link: &mut L, known: &mut Known, wait_ms: u32) -> Result<Came, HubFault>
     ensures so { ListensSo result wait_ms known.old known.new (L.story link.old) (L.story link.new) }
     ensures time { L.clock link.old ≤ L.clock link.new }
-    ensures count { L.faults link.old ≤ L.faults link.new }
+    ensures count { NeverFall (L.faults link.old) (L.faults link.new) }
     ensures events { L.place link.old ≤ L.place link.new }
     ensures script { L.script link.new ≡ L.script link.old }
     ensures cause { known.old.fault ≡ None → IfErr result (λ fault. FailsWhere fault (L.faults link.old) (L.faults link.new)) }

@@ -92,7 +92,7 @@ fn each_call_fails_in_turn(rt: HostRuntime) -> Result<(), Fail> {
         }
         assert!(rt; matches!(report.fault, Some(HubFault::LinkFailed)), "{n}");
         assert_eq!(rt; link.calls, n);
-        assert_eq!(rt; link.faults, 1);
+        assert_eq!(rt; link.faults.failed, 1);
     }
     Err(Fail::from("each call failed"))
 }

@@ -37,6 +37,18 @@ const OF_ANOTHER_FRAME: [u8; 20] = [
     0x11, 0x05, 0x00, 0x81,
 ];
 
+/// A frame of the device to the tunnel: a T_Disconnect.
+const OF_DEVICE: [u8; 20] = [
+    0x06, 0x10, 0x04, 0x20, 0x00, 0x14, 0x04, 0x01, 0x00, 0x00, 0x29, 0x00, 0xBC, 0x60, 0x11, 0x05,
+    0x11, 0xFF, 0x00, 0x81,
+];
+
+/// The same to another address, 1.1.254.
+const TO_ANOTHER: [u8; 20] = [
+    0x06, 0x10, 0x04, 0x20, 0x00, 0x14, 0x04, 0x01, 0x00, 0x00, 0x29, 0x00, 0xBC, 0x60, 0x11, 0x05,
+    0x11, 0xFE, 0x00, 0x81,
+];
+
 /// A call of the hub, by its one worker.
 #[derive(Clone, Copy, Drop)]
 enum Call {
@@ -139,6 +151,18 @@ fn polls_last_as_they_should(rt: HostRuntime) -> Result<(), Fail> {
             name: "a confirmation that is another's brings no connection up",
             first: &OF_ANOTHER,
             calls: &[Turn, Pump, Turn, Pump, Pump, Turn, Pump],
+            ends: 100,
+        },
+        Row {
+            name: "a frame of the device waits for its worker",
+            first: &OF_DEVICE,
+            calls: &[Turn, Pump, Turn, Pump, Pump, Pump],
+            ends: 0,
+        },
+        Row {
+            name: "a frame of the device to another address is for no worker",
+            first: &TO_ANOTHER,
+            calls: &[Turn, Pump, Turn, Pump, Pump, Pump],
             ends: 100,
         },
         Row {

@@ -26,7 +26,9 @@ use Rattle.knx_model.specs.declared.address.IndAddr.{IndAddr}
 use Rattle.knx_model.specs.Outside.{FilesNow, Rose, greatest_count, one_more}
 use Rattle.line_model.specs.Dialled.{Address, DialerNow, Tells}
 use Rattle.line_model.specs.LinkStory.{Story}
+use Rattle.line_model.specs.Polled.{none_failed}
 use Rattle.line_model.specs.Record.{entries}
+use Rattle.line_model.specs.declared.outside.link_counts.LinkCounts.{LinkCounts}
 use Rattle.tunnel_link.specs.Rights.{WhereTold}
 use Rattle.call_parts.specs.Ending.{Is, StopsFor, report_in, wanting}
 use Rattle.call_parts.specs.Input.{IsRead, OnlyRose, failed, fault_in, first_some, octets_of}
@@ -155,23 +157,23 @@ units_give words reading before after end h = does_by (after ≡ before) (λ tex
 
 -- ---- what was given, by what the link told
 
-pub over_of : (wanted : IndAddr) (came : Outcome) (before faults : ℕ) (link : Story) → before ≡ 0 → WhereExact (EndsSo wanted came) link → WhereTold KeepsChannel link
-    → WhereTold (λ places. PutsOnly wanted (entries places)) link → IfOk came (λ assigned. ¬ Rose before faults → WhereExact (Leaves wanted assigned) link) → IfErr came (λ fault. FailsBy fault before faults) → GivesOver wanted came faults link
+pub over_of : (wanted : IndAddr) (came : Outcome) (before faults : LinkCounts) (link : Story) → before ≡ none_failed → WhereExact (EndsSo wanted came) link → WhereTold KeepsChannel link
+    → WhereTold (λ places. PutsOnly wanted (entries places)) link → IfOk came (λ assigned. ¬ Rose before.failed faults.failed → WhereExact (Leaves wanted assigned) link) → IfErr came (λ fault. FailsBy fault before faults) → GivesOver wanted came faults link
 over_of wanted came before faults link none ended channel puts leaves cause = record {
   ends = ended;
   channel = channel;
   puts = puts;
-  leaves = subst (λ (n : ℕ). IfOk came (λ assigned. ¬ Rose n faults → WhereExact (Leaves wanted assigned) link)) none leaves;
-  cause = subst (λ (n : ℕ). IfErr came (λ fault. FailsBy fault n faults)) none cause;
+  leaves = subst (λ (n : LinkCounts). IfOk came (λ assigned. ¬ Rose n.failed faults.failed → WhereExact (Leaves wanted assigned) link)) none leaves;
+  cause = subst (λ (n : LinkCounts). IfErr came (λ fault. FailsBy fault n faults)) none cause;
 }
 
 -- ---- over a dialled link
 
-pub given_dialled : (words : AssignWords) (before after : DialerNow) (since dials : ℕ) (given : Option Address) (end : AssignEnd) → before.faults ≤ since → Tells words.at.host words.at.port given → dials ≡ one_more before.dials → after.given ≡ given → after.dials ≡ dials
-    → TellsOutcome words.wanted [] (OverLink words.wanted since after) end → TellsOutcome words.wanted [] (GivesDialled words before after) end
-given_dialled words before after since dials given end count tells once same still h = (
+pub given_dialled : (words : AssignWords) (before after : DialerNow) (since wanting dials : ℕ) (given : Option Address) (end : AssignEnd) → before.faults ≤ since → Tells words.at.host words.at.port given → dials ≡ one_more before.dials → after.given ≡ given → after.dials ≡ dials → wanting ≡ before.wanting
+    → TellsOutcome words.wanted [] (OverLink words.wanted since wanting after) end → TellsOutcome words.wanted [] (GivesDialled words before after) end
+given_dialled words before after since wanting dials given end count tells once same still stands h = (
   h.0,
-  record { given = subst (Tells words.at.host words.at.port) (sym same) tells; once = still ∙ once; since = since; count = count; link = h.1 },
+  record { given = subst (Tells words.at.host words.at.port) (sym same) tells; once = still ∙ once; since = since; count = count; link = subst (λ (n : ℕ). OverLink words.wanted since n after h.0) stands h.1 },
   h.2,
 )
 
@@ -217,9 +219,9 @@ failed_last before after run none (inr most) (inl still) = absurd (not_most afte
 
 pub given_sim : (wanted : IndAddr) (text : Units) (bus after : BusNow) (came : Outcome) → BeginsAs wanted (Ok text) bus → ((one other : Begun) → lines_of one ≡ lines_of other → one ≡ other) → QuietBuses → QuietTexts → lines_of after.run.begun ≡ lines_of bus.run.begun
     → IsFresh (start after.run) → IsLegal (start after.run) after.run.events → FollowsText after.run.begun.losses (start after.run) after.run.events
-    → ((from : AddressWorld) (events : List AddressEvent) → told_of after.run ≡ Told from events → AlwaysKeepsUnits wanted from events) → UnitsDetermine wanted after came → bus.faults ≡ 0
-    → FailsAtEnd after.faults after.run → WhereExact (EndsSo wanted came) (story after.run) → WhereTold KeepsChannel (story after.run) → WhereTold (λ places. PutsOnly wanted (entries places)) (story after.run)
-    → IfOk came (λ assigned. ¬ Rose bus.faults after.faults → WhereExact (Leaves wanted assigned) (story after.run)) → IfErr came (λ fault. FailsBy fault bus.faults after.faults) → GivesOnBus wanted text after came
+    → ((from : AddressWorld) (events : List AddressEvent) → told_of after.run ≡ Told from events → AlwaysKeepsUnits wanted from events) → UnitsDetermine wanted after came → bus.faults ≡ none_failed
+    → FailsAtEnd after.faults.failed after.run → WhereExact (EndsSo wanted came) (story after.run) → WhereTold KeepsChannel (story after.run) → WhereTold (λ places. PutsOnly wanted (entries places)) (story after.run)
+    → IfOk came (λ assigned. ¬ Rose bus.faults.failed after.faults.failed → WhereExact (Leaves wanted assigned) (story after.run)) → IfErr came (λ fault. FailsBy fault bus.faults after.faults) → GivesOnBus wanted text after came
 given_sim wanted text bus after came b law buses texts same fresh legal follows units determine none faults ended channel puts leaves cause =
     let begun : after.run.begun ≡ begun_by wanted text = law after.run.begun bus.run.begun same ∙ run_begun wanted text bus b in
     let follows_it : FollowsText text.1 (start after.run) after.run.events = subst (λ (losses : List UnitLoss). FollowsText losses (start after.run) after.run.events) (ap (λ (z : Begun). z.losses) begun) follows in
@@ -232,11 +234,11 @@ given_sim wanted text bus after came b law buses texts same fresh legal follows 
       nothing_lost = lost_nothing text after texts follows_it;
       determined = determined_on wanted text after came determine buses begun follows_it;
       over = over_of wanted came bus.faults after.faults (story after.run) none ended channel puts leaves cause;
-      last = λ failed. failed_last bus.faults after.faults after.run none (subst (λ (o : Outcome). IfErr o (λ fault. FailsBy fault bus.faults after.faults)) failed cause) faults;
+      last = λ failed. failed_last bus.faults.failed after.faults.failed after.run (ap (λ (n : LinkCounts). n.failed) none) (subst (λ (o : Outcome). IfErr o (λ fault. FailsBy fault bus.faults after.faults)) failed cause) faults;
     }
 
 -- what was judged has begun a bus on which nothing was done
-pub begun_new : (wanted : IndAddr) (j : Result Units Stop) (bus : BusNow) → BeginsAs wanted j bus → (bus.run.events ≡ []) × (bus.faults ≡ 0)
+pub begun_new : (wanted : IndAddr) (j : Result Units Stop) (bus : BusNow) → BeginsAs wanted j bus → (bus.run.events ≡ []) × (bus.faults ≡ none_failed)
 begun_new wanted (Ok text) bus b = (ap (λ (r : RunNow). r.events) b.0, b.1)
 begun_new wanted (Err why) bus b = absurd b
 

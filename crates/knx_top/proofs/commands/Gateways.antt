@@ -8,6 +8,7 @@ use Rattle.knx_model.specs.Outside.{FileContent, FilesNow}
 use Rattle.call_parts.specs.Input.{OnlyRose, fault_in, first_some, goes_on, octets_of, failed}
 use Rattle.knx_top.specs.declared.commands.gateway.GatewayTexts.{GatewayTexts}
 use Rattle.knx_top.specs.declared.commands.gateway.Ready.{Ready}
+use Rattle.line_model.specs.Polled.{none_failed}
 use Rattle.line_model.specs.StartOf.{tunnel_address}
 use Rattle.knx_model.specs.Meaning.{Installation}
 use Rattle.call_parts.specs.Ending.{Is, StopsFor, report_in, wanting, untold}
@@ -64,7 +65,7 @@ judged_gateway_is words texts =
 
 -- ---- the last test
 
-pub line_for : (words : GatewayWords) (before : Installation) (ls : List ScriptLine) (ready : Ready) → BeginsLine before before ls ready.line.run → ready.line.faults ≡ 0 → ready.tunnel ≡ tunnel_address before → LineFor (with_lines words before ls) ready
+pub line_for : (words : GatewayWords) (before : Installation) (ls : List ScriptLine) (ready : Ready) → BeginsLine before before ls ready.line.run → ready.line.faults ≡ none_failed → ready.tunnel ≡ tunnel_address before → LineFor (with_lines words before ls) ready
 line_for words before ls ready begins sound tunnel = rw begins.known (record { begins = begins; sound = sound; tunnel = tunnel })
 
 -- ---- the reads

@@ -29,7 +29,9 @@ use Rattle.knx_model.specs.declared.address.IndAddr.{IndAddr}
 use Rattle.knx_model.specs.Outside.{FilesNow, Rose, one_more}
 use Rattle.line_model.specs.Dialled.{Address, DialerNow, TakesBack, Tells}
 use Rattle.line_model.specs.LinkStory.{Story}
+use Rattle.line_model.specs.Polled.{none_failed}
 use Rattle.line_model.specs.Record.{entries}
+use Rattle.line_model.specs.declared.outside.link_counts.LinkCounts.{LinkCounts}
 use Rattle.tunnel_link.specs.Rights.{WhereTold}
 use Rattle.knx_top.specs.Dialled.{FailsToOpen}
 use Rattle.call_parts.specs.Ending.{StopsFor}
@@ -69,15 +71,15 @@ abbrev pub Outcome : Type 0
 Outcome = Result Assigned AssignFault
 
 -- By what the link told last: the channel is kept as it should be, whatever the clock. Where that is exact, an answer and a fault are told exactly at their
--- cause, and behind an answer the channel is asked to end, once, unless a call of the link failed. A fault of the link is told only where its count rose,
--- which was 0.
-pub record GivesOver (wanted : IndAddr) (came : Outcome) (faults : ℕ) (last : Story) : Type 0 where
+-- cause, and behind an answer the channel is asked to end, once, unless a call of the link failed. A fault of the link, or its want of memory, is told only
+-- where its count of that rose, which was 0.
+pub record GivesOver (wanted : IndAddr) (came : Outcome) (faults : LinkCounts) (last : Story) : Type 0 where
   pub ends : WhereExact (EndsSo wanted came) last
   pub channel : WhereTold KeepsChannel last
   -- no request whose frame reads was sent but broadcast reads of addresses, broadcast writes of the wanted one, T_Connects and T_Disconnects to it
   pub puts : WhereTold (λ places. PutsOnly wanted (entries places)) last
-  pub leaves : IfOk came (λ assigned. ¬ Rose 0 faults → WhereExact (Leaves wanted assigned) last)
-  pub cause : IfErr came (λ fault. FailsBy fault 0 faults)
+  pub leaves : IfOk came (λ assigned. ¬ Rose 0 faults.failed → WhereExact (Leaves wanted assigned) last)
+  pub cause : IfErr came (λ fault. FailsBy fault none_failed faults)
 
 -- this came of it, of which P holds; or memory is wanting, to go on or to tell it
 abbrev pub TellsOutcome : IndAddr → List BusUnit → (Outcome → Type 0) → AssignEnd → Type 0
@@ -85,11 +87,12 @@ TellsOutcome wanted units P end = (came : Outcome) × P came × EndsAs wanted un
 
 -- ---- over a dialled link
 
--- The address was given over a link that was dialled, and the link was handed back. The dialer's count was `since` once it had dialled, and takes that of
--- the link in where it is `after`.
-pub record OverLink (wanted : IndAddr) (since : ℕ) (after : DialerNow) (came : Outcome) : Type 0 where
-  pub faults : ℕ
-  pub taken : TakesBack faults since after.faults
+-- The address was given over a link that was dialled, and the link was handed back. The dialer's counts were these once it had dialled, and take those of the
+-- link in.
+pub record OverLink (wanted : IndAddr) (failed wanting : ℕ) (after : DialerNow) (came : Outcome) : Type 0 where
+  pub faults : LinkCounts
+  pub taken : TakesBack faults.failed failed after.faults
+  pub lacked : TakesBack faults.wanting wanting after.wanting
   pub over : GivesOver wanted came faults after.link_back
 
 -- the link was dialled by one call of `dial`
@@ -98,7 +101,7 @@ pub record GivesDialled (words : AssignWords) (before after : DialerNow) (came :
   pub once : after.dials ≡ one_more before.dials
   pub since : ℕ
   pub count : before.faults ≤ since
-  pub link : OverLink words.wanted since after came
+  pub link : OverLink words.wanted since before.wanting after came
 
 -- the dial failed; or a link was dialled, and the address given over it. No units are told
 abbrev pub Gives : AssignWords → DialerNow → DialerNow → End → Type 0
@@ -182,5 +185,5 @@ assign_sim_words_of names = record { units = names.units.now; wanted = names.wan
 
 -- a bus on which nothing was done, begun by a text
 abbrev pub BeginsAs : IndAddr → Result Units Stop → BusNow → Type 0
-BeginsAs wanted (Ok text) bus = (bus.run ≡ record { begun = begun_by wanted text; events = [] }) × (bus.faults ≡ 0)
+BeginsAs wanted (Ok text) bus = (bus.run ≡ record { begun = begun_by wanted text; events = [] }) × (bus.faults ≡ none_failed)
 BeginsAs wanted (Err why) bus = ⊥

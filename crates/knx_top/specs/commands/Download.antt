@@ -88,7 +88,7 @@ pub record DialledRun (d : Download) (before after : DialerNow) (report : Report
   -- the dialer's count once it had dialled
   pub since : ℕ
   pub count : before.faults ≤ since
-  pub cause : HasItsCause report since after.faults
+  pub cause : HasItsCause report since before.wanting after
 
 -- memory is wanting before anything is dialled; or the dial failed; or a link was dialled, gone through and handed back, whether the report of that is
 -- written or memory is wanting for it

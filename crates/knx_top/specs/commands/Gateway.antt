@@ -7,6 +7,7 @@ use Rattle.line_model.specs.Dialled.{Address, DialerNow, TakesBack, Tells}
 use Rattle.knx_top.specs.Begun.{BeginsLine}
 use Rattle.bus_sim.specs.Serving.{BreaksOff, FailsAt, ServedSo}
 use Rattle.bus_sim.specs.Loaded.{BusNow}
+use Rattle.line_model.specs.Polled.{none_failed}
 use Rattle.line_model.specs.StartOf.{BusOf, tunnel_address}
 use Rattle.call_parts.specs.Judged.{ComesTo, models_of, read_of, unless_refused, unless_strange, installed, sound}
 use Rattle.call_parts.specs.declared.ending.End.{End}
@@ -151,8 +152,8 @@ IsBrokenOff end = ⊥
 -- Of the counts of failed calls of the port and of the line, which are 0 where it begins: that it failed is told only where the port's rose, or the line's did at
 -- the last time of 64 bits, 2^64 - 1 ms after it began. Else no call of the line failed.
 abbrev pub HasCause : ServiceEnd → ℕ → BusNow → Type 0
-HasCause over.Failed port line = FailsAt fault.Failed 0 port 0 line.faults line.run
-HasCause end port line = line.faults ≡ 0
+HasCause over.Failed port line = FailsAt fault.Failed 0 port 0 line.faults.failed line.run
+HasCause end port line = line.faults.failed ≡ 0
 
 -- a serving, over whose port's return the dialer's count was `since` and is `after`
 pub record Serving (s : Service) (line : BusNow) (port : PortStory) (since after : ℕ) (end : ServiceEnd) : Type 0 where
@@ -245,7 +246,7 @@ gateway_words_of names = record { at = address_of names.at; old = names.old.now;
 -- a line that begins as the service says, of which no call has failed
 pub record IsLineOf (s : Service) (ready : Ready) : Type 0 where
   pub begins : BeginsLine s.before s.before s.script ready.line.run
-  pub sound : ready.line.faults ≡ 0
+  pub sound : ready.line.faults ≡ none_failed
   pub tunnel : ready.tunnel ≡ tunnel_address s.before
 
 -- what was judged has its line

@@ -8,6 +8,7 @@ ghost use Rattle.call_words.specs.declared.input_file.InputFile.TheVariants.{Scr
 ghost use Rattle.call_words.specs.declared.stop.Stop.TheVariants.{NoMemory as OutOfMemory};
 ghost use Rattle.line_model.specs.Dialled.{TakesBack};
 ghost use Rattle.line_model.specs.LinkStory.{IsNewLink};
+ghost use Rattle.line_model.specs.Polled.{none_failed};
 ghost use Rattle.call_parts.specs.Ending.{Is};
 ghost use Rattle.call_parts.specs.Judged.{Gives as GivesAs, unless_refused};
 ghost use Rattle.knx_top.specs.commands.Assign.{BeginsAs, GivesOr, GivesSim, OverLink, RunsAssign, RunsAssignSim, TellsOutcome, Units, assign_sim_words, assign_sim_words_of, assign_words, assign_words_of, judged_units, tunnel_beside};
@@ -70,8 +71,8 @@ fn give_over<R: Wait, D: Dialer>(
     dial: &mut D,
 ) -> AssignEnd
     requires new { IsNewLink (D.L.story link) }
-    requires sound { D.L.faults link ≡ 0 }
-    ensures tells { TellsOutcome wanted [] (OverLink wanted (D.now dial.old).faults (D.now dial.new)) result }
+    requires sound { D.L.faults link ≡ none_failed }
+    ensures tells { TellsOutcome wanted [] (OverLink wanted (D.now dial.old).faults (D.now dial.old).wanting (D.now dial.new)) result }
     ensures given { (D.now dial.new).given ≡ (D.now dial.old).given }
     ensures dials { (D.now dial.new).dials ≡ (D.now dial.old).dials }
 {
@@ -145,7 +146,7 @@ fn give_on<R: Wait>(
     units: &mut AddressBus,
 ) -> End
     requires new { bus.run.events ≡ [] }
-    requires sound { bus.faults ≡ 0 }
+    requires sound { bus.faults ≡ none_failed }
     ensures { (text : Units) → BeginsAs wanted (Ok text) bus → GivesSim wanted text units.old units.new result }
 {
     what_stays_is_all_that_it_began_with();

@@ -7,6 +7,7 @@ ghost use Rattle.call_words.specs.declared.stop.Stop.TheVariants.{NoMemory as Ou
 ghost use Rattle.hub_work.specs.declared.job.HubJob.{HubJob as JobOfHub};
 ghost use Rattle.line_model.specs.Headline.{IsGoodJob};
 ghost use Rattle.line_model.specs.LinkStory.{IsNewLink};
+ghost use Rattle.line_model.specs.Polled.{none_failed};
 ghost use Rattle.line_model.specs.Watched.{watch_in};
 ghost use Rattle.knx_top.specs.Dialled.{HasItsCause, IsToldOver};
 ghost use Rattle.call_parts.specs.Ending.{Is, report_in};
@@ -140,13 +141,13 @@ fn run<R: Threads + Wait + Sync, D: Dialer, G: Gate + Sync, W: Watcher + Send>(
     watch: &mut Option<W>,
 ) -> Report
     requires new { IsNewLink (D.L.story line) }
-    requires sound { D.L.faults line ≡ 0 }
+    requires sound { D.L.faults line ≡ none_failed }
     requires few { length plans < 4294967296 }
     requires good { AllByRecursion IsGoodJob (map seen_job plans) }
     ensures told { IsToldOver (workers_of (options_of options.now)) [] (map seen_job plans) (D.now dial.new).link_back result }
     ensures given { (D.now dial.new).given ≡ (D.now dial.old).given }
     ensures dials { (D.now dial.new).dials ≡ (D.now dial.old).dials }
-    ensures cause { HasItsCause result (D.now dial.old).faults (D.now dial.new).faults }
+    ensures cause { HasItsCause result (D.now dial.old).faults (D.now dial.old).wanting (D.now dial.new) }
     ensures watched { TellsWatcher (map (λ (job : JobOfHub). job.device) plans) options.now.quiet result (watch_in W.watch watch.old) (watch_in W.watch watch.new) }
 {
     let run = Run {

@@ -3,6 +3,7 @@
 ghost use Rattle.std.specs.Prelude.{◌≡◌, ◌≢◌, ◌≤◌, ◌+◌, ℕ, Err, IfErr, IfOk, List, None, length, map, string_bytes};
 ghost use Rattle.std.specs.Option.{option_map};
 ghost use Rattle.call_words.specs.declared.stop.Stop.TheVariants.{NoMemory as OutOfMemory};
+ghost use Rattle.line_model.specs.Polled.{none_failed};
 ghost use Rattle.line_model.specs.PortStory.{IsNewPort};
 ghost use Rattle.call_parts.specs.Ending.{Is, report_in};
 ghost use Rattle.call_parts.specs.Input.{OnlyRose};
@@ -183,7 +184,7 @@ fn serve<D: Dialer>(
 ) -> ServiceEnd
     requires new { IsNewPort (D.P.story door) }
     requires unfailed { D.P.faults door ≡ 0 }
-    requires sound { ready.line.faults ≡ 0 }
+    requires sound { ready.line.faults ≡ none_failed }
     ensures serving { (s : Service) → IsLineOf s ready → s.at ≡ address_of names.entry.at → s.turns ≡ names.entry.turns → Serving s sim.new (D.now dial.new).port_back (D.now dial.old).faults (D.now dial.new).faults result }
     ensures given { (D.now dial.new).given ≡ (D.now dial.old).given }
     ensures dials { (D.now dial.new).dials ≡ (D.now dial.old).dials }
@@ -207,7 +208,7 @@ fn bind_and_serve<D: Dialer>(
     sim: &mut SimBus,
     dial: &mut D,
 ) -> End
-    requires sound { ready.line.faults ≡ 0 }
+    requires sound { ready.line.faults ≡ none_failed }
     ensures { (s : Service) → IsLineOf s ready → s.at ≡ address_of names.entry.at → s.turns ≡ names.entry.turns → Serves s (D.now dial.old) (D.now dial.new) sim.old sim.new result }
 {
     match dial.bind(names.at.host, names.at.port) {

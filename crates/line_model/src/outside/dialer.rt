@@ -4,6 +4,7 @@ ghost use Rattle.std.specs.Prelude.{◌≡◌, ◌≤◌, IfOk, OnErr};
 ghost use Rattle.knx_model.specs.Outside.{Rose, one_more};
 ghost use Rattle.line_model.specs.Dialled.{DialerNow, Tells, TakesBack};
 ghost use Rattle.line_model.specs.LinkStory.{IsNewLink};
+ghost use Rattle.line_model.specs.Polled.{none_failed};
 ghost use Rattle.line_model.specs.PortStory.{IsNewPort};
 
 use crate::outside::link::Link;
@@ -27,9 +28,10 @@ pub trait Dialer {
     /// Dials a gateway. The link has no events, or an empty record, and no fault.
     fn dial(&mut self, host: [u8; 4], port: u16) -> Result<Self::L, DialFailed>
         ensures fresh { IfOk result (λ l. IsNewLink (Self.L.story l)) }
-        ensures sound { IfOk result (λ l. Self.L.faults l ≡ 0) }
+        ensures sound { IfOk result (λ l. Self.L.faults l ≡ none_failed) }
         ensures failed { OnErr result (Rose (now self.old).faults (now self.new).faults) }
         ensures count { (now self.old).faults ≤ (now self.new).faults }
+        ensures wanting { (now self.new).wanting ≡ (now self.old).wanting }
         ensures tells { Tells host port (now self.new).given }
         ensures dials { (now self.new).dials ≡ one_more (now self.old).dials }
         ensures link_stays { (now self.new).link_back ≡ (now self.old).link_back }
@@ -41,14 +43,16 @@ pub trait Dialer {
         ensures sound { IfOk result (λ p. Self.P.faults p ≡ 0) }
         ensures failed { OnErr result (Rose (now self.old).faults (now self.new).faults) }
         ensures count { (now self.old).faults ≤ (now self.new).faults }
+        ensures wanting { (now self.new).wanting ≡ (now self.old).wanting }
         ensures tells { Tells host port (now self.new).given }
         ensures dials { (now self.new).dials ≡ one_more (now self.old).dials }
         ensures link_stays { (now self.new).link_back ≡ (now self.old).link_back }
         ensures port_stays { (now self.new).port_back ≡ (now self.old).port_back };
 
-    /// Takes a link back. The count rises exactly where that of the link isn't 0.
+    /// Takes a link back. Each count rises exactly where that of the link isn't 0.
     fn hang(&mut self, line: Self::L)
-        ensures count { TakesBack (Self.L.faults line) (now self.old).faults (now self.new).faults }
+        ensures count { TakesBack (Self.L.faults line).failed (now self.old).faults (now self.new).faults }
+        ensures wanting { TakesBack (Self.L.faults line).wanting (now self.old).wanting (now self.new).wanting }
         ensures told { (now self.new).link_back ≡ Self.L.story line }
         ensures given { (now self.new).given ≡ (now self.old).given }
         ensures dials { (now self.new).dials ≡ (now self.old).dials };
@@ -56,6 +60,7 @@ pub trait Dialer {
     /// Takes a port back.
     fn shut(&mut self, door: Self::P)
         ensures count { TakesBack (Self.P.faults door) (now self.old).faults (now self.new).faults }
+        ensures wanting { (now self.new).wanting ≡ (now self.old).wanting }
         ensures told { (now self.new).port_back ≡ Self.P.story door }
         ensures given { (now self.new).given ≡ (now self.old).given }
         ensures dials { (now self.new).dials ≡ (now self.old).dials };

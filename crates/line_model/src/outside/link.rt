@@ -2,16 +2,16 @@
 
 ghost use Rattle.std.specs.Prelude.{◌≡◌, ◌≤◌, ℕ, OnOk, OnErr};
 ghost use Rattle.line_model.specs.LinkStory.{Story, IsTime, IsPlace, Sends, SendsOrNot, Renews, RenewsOrNot};
-ghost use Rattle.line_model.specs.Polled.{PollsSo, FailsWhere};
+ghost use Rattle.line_model.specs.Polled.{PollsSo, FailsWhere, NeverFall};
 
 use knx_model::NoMemory;
 
 /// A call of the link failed.
 #[derive(Clone, Copy, Debug, Drop, PartialEq, Eq)]
 pub enum LinkFault {
-    /// There was no memory.
+    /// There was no memory; the link's count of such answers rose.
     NoMemory(NoMemory),
-    /// The link's count of faults rose.
+    /// The link's count of failed calls rose.
     Failed,
 }
 
@@ -40,6 +40,7 @@ pub enum Polled {
 pub trait Link: Drop {
     ghost use Rattle.line_model.specs.LinkStory.{Story};
     ghost use Rattle.line_model.specs.Lines.{Script};
+    ghost use Rattle.line_model.specs.declared.outside.link_counts.LinkCounts.{LinkCounts};
     ghost use Rattle.std.specs.Prelude.{ℕ};
 
     /// What it tells of itself.
@@ -54,15 +55,15 @@ pub trait Link: Drop {
     /// How many events there were; of a link that tells its record and no events, how many entries it has.
     ghost place: { Self → ℕ };
 
-    /// How many calls failed; it never falls.
-    ghost faults: { Self → ℕ };
+    /// How many calls failed, and how many answered that there was no memory; neither falls.
+    ghost faults: { Self → LinkCounts };
 
     /// Sends a datagram.
     fn send(&mut self, octets: &[u8]) -> Result<(), LinkFault>
         ensures sent { OnOk result (Sends octets.now (story self.old) (story self.new)) }
         ensures failed { OnErr result (SendsOrNot octets.now (story self.old) (story self.new)) }
         ensures cause { FailsWhere result (faults self.old) (faults self.new) }
-        ensures count { faults self.old ≤ faults self.new }
+        ensures count { NeverFall (faults self.old) (faults self.new) }
         ensures time { clock self.new ≡ clock self.old }
         ensures events { place self.old ≤ place self.new }
         ensures script { script self.new ≡ script self.old };
@@ -72,7 +73,7 @@ pub trait Link: Drop {
         ensures renewed { OnOk result (Renews (story self.old) (story self.new)) }
         ensures failed { OnErr result (RenewsOrNot (story self.old) (story self.new)) }
         ensures cause { FailsWhere result (faults self.old) (faults self.new) }
-        ensures count { faults self.old ≤ faults self.new }
+        ensures count { NeverFall (faults self.old) (faults self.new) }
         ensures time { clock self.new ≡ clock self.old }
         ensures events { place self.old ≤ place self.new }
         ensures script { script self.new ≡ script self.old };
@@ -81,7 +82,7 @@ pub trait Link: Drop {
     fn poll(&mut self, into: &mut [u8; 512], wait_ms: u32) -> Result<Polled, LinkFault>
         ensures polled { PollsSo result into.new wait_ms (clock self.new) (story self.old) (story self.new) }
         ensures cause { FailsWhere result (faults self.old) (faults self.new) }
-        ensures count { faults self.old ≤ faults self.new }
+        ensures count { NeverFall (faults self.old) (faults self.new) }
         ensures time { clock self.old ≤ clock self.new }
         ensures events { place self.old ≤ place self.new }
         ensures script { script self.new ≡ script self.old };

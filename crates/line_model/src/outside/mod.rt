@@ -3,11 +3,13 @@
 mod dialer;
 mod gate;
 mod link;
+mod link_counts;
 mod port;
 mod watcher;
 
 pub use dialer::{DialFailed, Dialer};
 pub use gate::{Gate, Open};
 pub use link::{Link, LinkFault, Polled};
+pub use link_counts::LinkCounts;
 pub use port::{Port, PortFault, PortPolled};
 pub use watcher::{JobProgress, Watcher};

@@ -1,11 +1,10 @@
 //! The closing.
 
-ghost use Rattle.std.specs.Prelude.{◌≡◌, ◌⊎◌, None, false, true, List, IfErr, IfOk, OnOk};
+ghost use Rattle.std.specs.Prelude.{◌≡◌, ◌⊎◌, None, Some, false, true, List, IfErr, IfOk, OnOk};
 ghost use Rattle.hub_core.specs.Closes.{IsOver};
 ghost use Rattle.hub_core.specs.Left.{AllDone};
 ghost use Rattle.hub_core.specs.Promises.{LeavesOver};
 ghost use Rattle.hub_core.specs.Closed.{HasClosed};
-ghost use Rattle.shared_hub.specs.Ends.{HasEndedSo};
 ghost use Rattle.hub_core.specs.Heard.{HeardIn};
 ghost use Rattle.shared_hub.specs.Leaving.{ClosesSo, GoesThrough, KnowsHowFar};
 ghost use Rattle.shared_hub.specs.Relays.{GoesOnFrom, HearsOne};
@@ -34,7 +33,7 @@ impl<L: Link> Ending<L> {
         ensures closed { OnOk result (WhereTold (HasClosed self.new.hub.log) (L.story self.new.hub.link)) }
         ensures stands { OnOk result (self.new.hub.fault ≡ None) }
         ensures heard { HeardIn self.new.hub.fault self.new.hub.missed self.new.heard (record_in (L.story self.new.hub.link)) }
-        ensures cause { IfErr result (HasEndedSo self.new.hub.fault) }
+        ensures fault { IfErr result (λ fault. self.new.hub.fault ≡ Some fault) }
     {
         for _ in rt.forever() {
             if self.finishes()? {
@@ -61,7 +60,7 @@ impl<L: Link> Ending<L> {
         ensures goes_on { IfOk result (λ over. over ≡ false → HearsOne (L.story self.old.hub.link) (L.story self.new.hub.link) ⊎ WhereTold (λ places. ¬ IsOver self.new.hub.closing (entries places)) (L.story self.new.hub.link)) }
         ensures stands { OnOk result (self.new.hub.fault ≡ None) }
         ensures heard { HeardIn self.new.hub.fault self.new.hub.missed self.new.heard (record_in (L.story self.new.hub.link)) }
-        ensures cause { IfErr result (HasEndedSo self.new.hub.fault) }
+        ensures fault { IfErr result (λ fault. self.new.hub.fault ≡ Some fault) }
     {
         match self.hub.finish()? {
             Finished::Heard(indication) => {

@@ -3,7 +3,7 @@
 mod close;
 mod closing;
 
-ghost use Rattle.std.specs.Prelude.{◌≡◌, ℕ, IfSome, None};
+ghost use Rattle.std.specs.Prelude.{◌≡◌, ℕ, None};
 ghost use Rattle.hub_core.specs.Commissioned.{TellsRun, log_of};
 ghost use Rattle.hub_core.specs.Heard.{HeardIn};
 ghost use Rattle.hub_core.specs.Left.{AllDone};
@@ -11,7 +11,7 @@ ghost use Rattle.hub_core.specs.Seats.{IsOfWorkers};
 ghost use Rattle.hub_core.specs.Seen.{tasks_seen};
 ghost use Rattle.hub_core.specs.Since.{CausedSince};
 ghost use Rattle.line_model.specs.LinkStory.{record_in};
-ghost use Rattle.shared_hub.specs.Ends.{HasEndedSo};
+ghost use Rattle.line_model.specs.declared.outside.link_counts.LinkCounts.{LinkCounts};
 ghost use Rattle.shared_hub.specs.Leaving.{GoesThrough};
 ghost use Rattle.tunnel_link.specs.Goes.{GoesOn};
 
@@ -28,18 +28,17 @@ pub struct Ending<L: Link> {
 }
 
 impl<L: Link> Ending<L> {
-    /// Goes through the closing, unless the run has ended so, and hands the link back with what is told of the run.
+    /// Goes through the closing, unless the hub has ended so, and hands the link back with what is told of the run.
     pub fn end<R: Wait>(self, rt: &R, ended: Option<HubFault>) -> (L, Report)
         requires done { ended ≡ None → AllDone self.hub }
-        requires stands { ended ≡ None → self.hub.fault ≡ None }
+        requires fault { ended ≡ self.hub.fault }
         requires through { GoesThrough self.hub (L.story self.hub.link) }
         requires heard { HeardIn self.hub.fault self.hub.missed self.heard (record_in (L.story self.hub.link)) }
-        requires cause { IfSome ended (HasEndedSo self.hub.fault) }
         ensures grows { GoesOn (L.story self.hub.link) (L.story result.0) }
         ensures script { L.script result.0 ≡ L.script self.hub.link }
         ensures log { log_of result.1 ≡ self.hub.log }
         ensures tells { (workers : ℕ) → IsOfWorkers workers self.hub.log → TellsRun workers (tasks_seen self.hub.jobs) self.hub.devices self.hub.turns (L.story result.0) (L.place result.0) result.1 }
-        ensures caused { (before : ℕ) → CausedSince before self.hub.fault (L.faults self.hub.link) → CausedSince before result.1.fault (L.faults result.0) }
+        ensures caused { (before : LinkCounts) → CausedSince before self.hub.fault (L.faults self.hub.link) → CausedSince before result.1.fault (L.faults result.0) }
     {
         let mut ending = self;
         match ended {

@@ -3,6 +3,7 @@
 ghost use Rattle.std.specs.Prelude.{◌≡◌, ◌≤◌, IfErr, OnOk, Ok, Some, None};
 ghost use Rattle.line_model.specs.ClientEnd.{IsCemi};
 ghost use Rattle.line_model.specs.LinkStory.{IsTime, clock_of};
+ghost use Rattle.line_model.specs.Polled.{NeverFall};
 ghost use Rattle.tunnel_link.specs.Alone.{Each, EndsNone, LeavesAlone, SendsOnce};
 ghost use Rattle.tunnel_link.specs.Goes.{GoesOn, AfterFault};
 ghost use Rattle.tunnel_link.specs.Rights.{FailsWhere, IsOfTunnel, WhereTold};
@@ -29,7 +30,7 @@ impl<L: Link> Tunnel<L> {
         ensures by_tunnel { self.old.known.fault ≡ None → IfErr result IsOfTunnel }
         ensures ended { AfterFault self.old result self.new }
         ensures time { L.clock self.old.link ≤ L.clock self.new.link }
-        ensures count { L.faults self.old.link ≤ L.faults self.new.link }
+        ensures count { NeverFall (L.faults self.old.link) (L.faults self.new.link) }
         ensures events { L.place self.old.link ≤ L.place self.new.link }
         ensures script { L.script self.new.link ≡ L.script self.old.link }
         ensures cause { self.old.known.fault ≡ None → IfErr result (λ fault. FailsWhere fault (L.faults self.old.link) (L.faults self.new.link)) }
@@ -55,7 +56,7 @@ impl<L: Link> Tunnel<L> {
         ensures by_tunnel { self.old.known.fault ≡ None → IfErr result IsOfTunnel }
         ensures ended { AfterFault self.old result self.new }
         ensures time { L.clock self.old.link ≤ L.clock self.new.link }
-        ensures count { L.faults self.old.link ≤ L.faults self.new.link }
+        ensures count { NeverFall (L.faults self.old.link) (L.faults self.new.link) }
         ensures events { L.place self.old.link ≤ L.place self.new.link }
         ensures script { L.script self.new.link ≡ L.script self.old.link }
         ensures cause { self.old.known.fault ≡ None → IfErr result (λ fault. FailsWhere fault (L.faults self.old.link) (L.faults self.new.link)) }
@@ -79,7 +80,7 @@ impl<L: Link> Tunnel<L> {
         ensures by_tunnel { self.old.known.fault ≡ None → IfErr result IsOfTunnel }
         ensures ended { AfterFault self.old result self.new }
         ensures time { L.clock self.old.link ≤ L.clock self.new.link }
-        ensures count { L.faults self.old.link ≤ L.faults self.new.link }
+        ensures count { NeverFall (L.faults self.old.link) (L.faults self.new.link) }
         ensures events { L.place self.old.link ≤ L.place self.new.link }
         ensures script { L.script self.new.link ≡ L.script self.old.link }
         ensures cause { self.old.known.fault ≡ None → IfErr result (λ fault. FailsWhere fault (L.faults self.old.link) (L.faults self.new.link)) }
@@ -106,7 +107,7 @@ impl<L: Link> Tunnel<L> {
         ensures by_tunnel { self.old.known.fault ≡ None → IfErr result IsOfTunnel }
         ensures ended { AfterFault self.old result self.new }
         ensures time { L.clock self.old.link ≤ L.clock self.new.link }
-        ensures count { L.faults self.old.link ≤ L.faults self.new.link }
+        ensures count { NeverFall (L.faults self.old.link) (L.faults self.new.link) }
         ensures events { L.place self.old.link ≤ L.place self.new.link }
         ensures script { L.script self.new.link ≡ L.script self.old.link }
         ensures cause { self.old.known.fault ≡ None → IfErr result (λ fault. FailsWhere fault (L.faults self.old.link) (L.faults self.new.link)) }
@@ -134,7 +135,7 @@ impl<L: Link> Tunnel<L> {
         ensures stands { OnOk result (self.new.known.fault ≡ None) }
         ensures by_tunnel { IfErr result IsOfTunnel }
         ensures time { L.clock self.old.link ≤ L.clock self.new.link }
-        ensures count { L.faults self.old.link ≤ L.faults self.new.link }
+        ensures count { NeverFall (L.faults self.old.link) (L.faults self.new.link) }
         ensures events { L.place self.old.link ≤ L.place self.new.link }
         ensures script { L.script self.new.link ≡ L.script self.old.link }
         ensures cause { IfErr result (λ fault. FailsWhere fault (L.faults self.old.link) (L.faults self.new.link)) }
@@ -155,7 +156,7 @@ impl<L: Link> Tunnel<L> {
         ensures stands { OnOk result (self.new.known.fault ≡ None) }
         ensures by_tunnel { IfErr result IsOfTunnel }
         ensures time { L.clock self.old.link ≤ L.clock self.new.link }
-        ensures count { L.faults self.old.link ≤ L.faults self.new.link }
+        ensures count { NeverFall (L.faults self.old.link) (L.faults self.new.link) }
         ensures events { L.place self.old.link ≤ L.place self.new.link }
         ensures script { L.script self.new.link ≡ L.script self.old.link }
         ensures cause { IfErr result (λ fault. FailsWhere fault (L.faults self.old.link) (L.faults self.new.link)) }
@@ -183,7 +184,7 @@ impl<L: Link> Tunnel<L> {
         ensures by_tunnel { self.old.known.fault ≡ None → IfErr result IsOfTunnel }
         ensures ended { AfterFault self.old result self.new }
         ensures time { L.clock self.old.link ≤ L.clock self.new.link }
-        ensures count { L.faults self.old.link ≤ L.faults self.new.link }
+        ensures count { NeverFall (L.faults self.old.link) (L.faults self.new.link) }
         ensures events { L.place self.old.link ≤ L.place self.new.link }
         ensures script { L.script self.new.link ≡ L.script self.old.link }
         ensures cause { self.old.known.fault ≡ None → IfErr result (λ fault. FailsWhere fault (L.faults self.old.link) (L.faults self.new.link)) }

@@ -34,7 +34,7 @@ returns-in_err-close-clause-ends g c =
 
 pub returns-clause-leaves : goal.returns-clause-leaves
 returns-clause-leaves g c = λ still.
-    left_so c.args.wanted c.in_ok-assigned.assigned _ _ c.in_ok-assigned.ensures.gives (c.in_ok-close.ensures.leaves (λ rose. still (rose_from _ _ _ (omega (arith, c.open.ensures.count, c.give.ensures.count)) rose)))
+    left_so c.args.wanted c.in_ok-assigned.assigned _ _ c.in_ok-assigned.ensures.gives (c.in_ok-close.ensures.leaves (λ rose. still (rose_from _ _ _ (omega (arith, c.open.ensures.count.0, c.give.ensures.count.0)) rose)))
 
 pub close-requires-clause-kept : goal.close-requires-clause-kept
 close-requires-clause-kept g c places p = (c.in_ok-assigned.ensures.gives places p).stands.kept

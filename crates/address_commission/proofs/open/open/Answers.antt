@@ -1,4 +1,5 @@
-use Rattle.std.proofs.Common.{subst, sym, ◌∙◌, arith, Ok}
+use Rattle.std.proofs.Common.{subst, sym, ◌∙◌, Ok}
+use Rattle.line_model.proofs.Counted.{fall_never}
 use Rattle.address_commission.specs.Calls.{TalkGoes}
 use Rattle.address_talk.specs.Rounds.{SameRounds}
 use Rattle.address_commission.proofs.Asking.{asks_then}
@@ -31,7 +32,9 @@ loop-preserved g c = record {
       (goes_then tt c.args.ear.now c.loop.ear c.loop.ear _ _ _ _ (goes_then tt c.args.ear.now c.loop.ear c.loop.ear _ _ _ _ c.loop.invariant.goes (c.in_ok-act.ensures.goes c.loop.ear)) (c.in_ok-seek.ensures.goes c.loop.ear)) c.in_ok-poll.ensures.goes;
   puts = asks_then _ _ _ (asks_then _ _ _ (asks_then _ _ _ c.loop.invariant.puts c.act.ensures.puts) c.seek.ensures.puts) c.poll.ensures.puts;
   stands = c.in_ok-poll.ensures.stands;
-  count = omega (arith, c.loop.invariant.count, c.act.ensures.count, c.seek.ensures.count, c.poll.ensures.count);
+  count = fall_never (g.L.Link.faults c.args.tunnel.now.link) (g.L.Link.faults c.seek.new.tunnel.link) (g.L.Link.faults c.poll.new.tunnel.link)
+      (fall_never (g.L.Link.faults c.args.tunnel.now.link) (g.L.Link.faults c.act.new.tunnel.link) (g.L.Link.faults c.seek.new.tunnel.link) (fall_never (g.L.Link.faults c.args.tunnel.now.link) (g.L.Link.faults c.loop.tunnel.link) (g.L.Link.faults c.act.new.tunnel.link) c.loop.invariant.count c.act.ensures.count) c.seek.ensures.count)
+      c.poll.ensures.count;
   script = c.poll.ensures.script ∙ c.seek.ensures.script ∙ c.act.ensures.script ∙ c.loop.invariant.script;
 }
 

@@ -1,4 +1,5 @@
-use Rattle.std.proofs.Common.{◌∙◌, arith, subst, sym, Ok}
+use Rattle.std.proofs.Common.{◌∙◌, subst, sym, Ok}
+use Rattle.line_model.proofs.Counted.{fall_never}
 use Rattle.address_commission.specs.Calls.{TalkGoes}
 use Rattle.address_talk.specs.Rounds.{SameRounds}
 use Rattle.address_commission.proofs.Asking.{asks_then}
@@ -32,7 +33,7 @@ loop-preserved g c = record {
   for_it = still_listens_for c.args.quiet_ms _ _ c.poll.ensures.same (still_listens_for c.args.quiet_ms _ _ c.act.ensures.same c.loop.invariant.for_it);
   puts = asks_then _ _ _ (asks_then _ _ _ c.loop.invariant.puts c.act.ensures.puts) c.poll.ensures.puts;
   stands = c.in_ok-poll.ensures.stands;
-  count = omega (arith, c.loop.invariant.count, c.act.ensures.count, c.poll.ensures.count);
+  count = fall_never (g.L.Link.faults c.args.tunnel.now.link) (g.L.Link.faults c.act.new.tunnel.link) (g.L.Link.faults c.poll.new.tunnel.link) (fall_never (g.L.Link.faults c.args.tunnel.now.link) (g.L.Link.faults c.loop.tunnel.link) (g.L.Link.faults c.act.new.tunnel.link) c.loop.invariant.count c.act.ensures.count) c.poll.ensures.count;
   script = c.poll.ensures.script ∙ c.act.ensures.script ∙ c.loop.invariant.script;
 }
 

@@ -1,8 +1,9 @@
-use Rattle.std.proofs.Common.{◌≡◌, ◌≤◌, None, Ok}
+use Rattle.std.proofs.Common.{◌≡◌, None, Ok}
 use Rattle.address_commission.specs.Always.{AsksNoOther}
 use Rattle.address_commission.specs.Calls.{TalkGoes}
 use Rattle.address_talk.specs.Rounds.{SameRounds, rounds}
 use Rattle.address_commission.specs.Listening.{ListensFor}
+use Rattle.line_model.specs.Polled.{NeverFall}
 use Rattle.line_model.specs.Moments.{moments}
 use Rattle.address_commission.specs.Exact.{WhereExact}
 use Rattle.address_commission.proofs.wait.wait_out.Given as goal
@@ -16,6 +17,6 @@ invariant-loop g l = record {
   for_it : WhereExact (λ places. ListensFor l.fn.quiet_ms (rounds (moments places))) (g.L.Link.story l.tunnel.link);
   puts : AsksNoOther (g.L.Link.story l.fn.tunnel.link) (g.L.Link.story l.tunnel.link);
   stands : l.tunnel.known.fault ≡ None;
-  count : g.L.Link.faults l.fn.tunnel.link ≤ g.L.Link.faults l.tunnel.link;
+  count : NeverFall (g.L.Link.faults l.fn.tunnel.link) (g.L.Link.faults l.tunnel.link);
   script : g.L.Link.script l.tunnel.link ≡ g.L.Link.script l.fn.tunnel.link;
 }

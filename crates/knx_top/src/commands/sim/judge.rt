@@ -1,5 +1,6 @@
 //! What was read is judged in order: the catalogue, NEW, OLD, the script and its devices, then the devices of the jobs.
 
+ghost use Rattle.line_model.specs.Polled.{none_failed};
 ghost use Rattle.std.specs.Prelude.{◌≡◌, ◌≢◌, ◌≤◌, Err, IfErr, IfOk, length};
 ghost use Rattle.call_words.specs.declared.stop.Stop.TheVariants.{NoMemory as OutOfMemory};
 ghost use Rattle.knx_top.specs.Begun.{BeginsLine, IsPrepared, OrderFor};
@@ -79,7 +80,7 @@ fn judge_jobs<R: Threads + Sync>(
     line: SimBus,
 ) -> Result<Order, Stop>
     requires begins { BeginsLine new.now old.now script.now.lines line.run }
-    requires sound { line.faults ≡ 0 }
+    requires sound { line.faults ≡ none_failed }
     ensures ok { IfOk result (λ order. OrderFor (with_lines (options_of options.now) new.now old.now script.now.lines) order) }
     ensures err { IfErr result (λ why. why ≢ OutOfMemory tt → with_lines (options_of options.now) new.now old.now script.now.lines ≡ Err why) }
 {

@@ -16,6 +16,7 @@ ghost use Rattle.call_parts.specs.Names.{options_of};
 ghost use Rattle.call_parts.specs.Stops.{project_in};
 ghost use Rattle.knx_top.specs.Ran.{Commission, FaultsOfLine, HasThreeTries};
 ghost use Rattle.knx_top.specs.Watched.{TellsTested, TellsWatcher, WhereRun};
+ghost use Rattle.line_model.specs.Polled.{none_failed};
 ghost use Rattle.line_model.specs.Watched.{watch_in};
 ghost use Rattle.knx_top.specs.commands.Sim.{Comes, Runs, ShowsRun, judged, sim_tests, sim_words_of};
 
@@ -70,7 +71,7 @@ pub fn run<R: Threads + Wait + Sync, G: Gate + Sync, W: Watcher + Send>(
 ) -> End
     requires one { order.line.run.begun.clients ≡ One }
     requires new { order.line.run.events ≡ [] }
-    requires sound { order.line.faults ≡ 0 }
+    requires sound { order.line.faults ≡ none_failed }
     requires few { length order.plans < 4294967296 }
     requires good { AllByRecursion IsGoodJob (map seen_job order.plans) }
     requires few_turns { length order.turns < 4294967296 }

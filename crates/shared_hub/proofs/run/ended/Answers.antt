@@ -1,7 +1,5 @@
 use Rattle.std.proofs.Common.{◌≡◌, None, sym, subst, ap, ◌∙◌}
-use Rattle.std.specs.Prelude.{IfSome}
 use Rattle.hub_core.specs.Left.{AllDone}
-use Rattle.shared_hub.specs.Ends.{HasEndedSo}
 use Rattle.shared_hub.specs.Sites.{SiteKeeps}
 use Rattle.shared_hub.proofs.Running.{ends_hearing, ends_so}
 use Rattle.hub_core.specs.Commissioned.{log_of}
@@ -18,11 +16,8 @@ close-heard-requires-clause-feed_of g c =
 
 pub end-link-requires-clause-done : goal.end-link-requires-clause-done
 end-link-requires-clause-done g c = λ none.
-    let stands : c.apart-hub.result.hub.fault ≡ None = sym c.close-heard.ensures.hub.fault ∙ (sym c.fault.ensures ∙ c.broken_off-ended.ensures.stands none) in
-    done_still c.apart-hub.result.hub c.close-heard.new.hub c.close-heard.ensures.hub (subst (λ h. AllDone h) (sym c.apart-hub.ensures.hub) (c.requires.done (sym (ap (λ h. h.fault) c.apart-hub.ensures.hub) ∙ stands) (c.broken_off-ended.ensures.given none)))
-
-pub end-link-requires-clause-stands : goal.end-link-requires-clause-stands
-end-link-requires-clause-stands g c = λ none. sym c.fault.ensures ∙ c.broken_off-ended.ensures.stands none
+    let stands : c.apart-hub.result.hub.fault ≡ None = sym c.close-heard.ensures.hub.fault ∙ (sym c.fault-ended.ensures ∙ none) in
+    done_still c.apart-hub.result.hub c.close-heard.new.hub c.close-heard.ensures.hub (subst (λ h. AllDone h) (sym c.apart-hub.ensures.hub) (c.requires.done (sym (ap (λ h. h.fault) c.apart-hub.ensures.hub) ∙ stands)))
 
 pub end-link-requires-clause-through : goal.end-link-requires-clause-through
 end-link-requires-clause-through g c =
@@ -33,9 +28,6 @@ pub end-link-requires-clause-heard : goal.end-link-requires-clause-heard
 end-link-requires-clause-heard g c =
     let keeps : SiteKeeps g.L.Link.story g.L.Link.script g.L.Link.faults c.apart-hub.result.hub c.args.site.opening.value c.apart-hub.result.feed c.args.site.relay.value = rw (c.apart-hub.ensures.hub, c.apart-hub.ensures.feed) c.apart-hub.ensures.keeps in
     ends_hearing g.L.Link.story g.L.Link.place g.L.Link.script g.L.Link.faults c.apart-hub.result.hub c.close-heard.new.hub _ _ _ keeps c.close-heard.ensures.hub _ c.close-heard.ensures.heard
-
-pub end-link-requires-clause-cause : goal.end-link-requires-clause-cause
-end-link-requires-clause-cause g c = subst (λ ended. IfSome c.broken_off-ended.result (HasEndedSo ended)) c.fault.ensures c.broken_off-ended.ensures.cause
 
 pub returns-clause-runs : goal.returns-clause-runs
 returns-clause-runs g c =

@@ -17,4 +17,4 @@ pub returns-in-Some-clause-fresh : goal.returns-in-Some-clause-fresh
 returns-in-Some-clause-fresh c = subst (λ (r : RunNow). IsFresh (start r)) (sym (ap bus_of c.in-Some.is) ∙ ap (λ (b : BusNow). b.run) c.self.view_is) c.keeps.ensures.fresh
 
 pub returns-in-Some-clause-faults : goal.returns-in-Some-clause-faults
-returns-in-Some-clause-faults c = subst (λ (b : BusNow). FailsAtEnd b.faults b.run) c.self.view_is c.self.invariant
+returns-in-Some-clause-faults c = subst (λ (b : BusNow). FailsAtEnd b.faults.failed b.run) c.self.view_is c.self.invariant

@@ -16,7 +16,7 @@ invariant_of-self-2 c =
     let w = replay (start_of c.self.inside.begun) c.self.inside.events.list in
     let taken : c.would_be_taken_again-taken.result ≡ takes_alone (w.devices c.args.device) (last_at w c.args.device) = c.would_be_taken_again-taken.ensures w c.self.invariant.pictured in
     after_own c.self.inside.begun c.self.inside.events.list c.make_room.new.events.list c.push.new.self.list c.self.inside.index c.self.inside.line c.bus_again.new.self c.self.inside.counts c.add.new.self c.self.inside.owed.list c.make_room.new.owed.list c.meet.new.self.list _ (BusAgain c.args.device) refl c.self.invariant c.in_ok-bus_again.ensures.next
-    (subst (λ v. IsRight v (BusAgain c.args.device)) (sym c.self.view_is) c.requires) c.make_room.ensures.events c.push.ensures c.in_ok-make_room.ensures.few c.make_room.ensures.owed c.meet.ensures
+    (subst (λ v. IsRight v (BusAgain c.args.device)) (sym c.self.view_is) c.requires) c.make_room.ensures.events c.push.ensures.list c.in_ok-make_room.ensures.few c.make_room.ensures.owed c.meet.ensures
     (one_called _ _ (c.connection_closes-first.ensures (said c.self.inside.begun) c.self.invariant.indexed
     ∙ again_closes c.self.inside.begun c.self.inside.events.list c.self.inside.index c.self.inside.line c.self.inside.counts c.self.inside.owed.list c.self.invariant c.args.device c.would_be_taken_again-taken.result c.saturating_add-n.result c.of.result taken c.saturating_add-n.ensures c.of.ensures))
     (subst (λ (x : CountsNow). AreCounts x (start_of c.self.inside.begun) (BusAgain c.args.device ∷ c.self.inside.events.list)) (sym c.add.ensures.value)

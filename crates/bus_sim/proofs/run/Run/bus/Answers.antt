@@ -32,7 +32,7 @@ invariant_of-self-2 c =
     = ap (λ t. t && c.is_some.result) c.comes_to-comes.ensures
     ∙ ap (λ t. comes (option_to_list c.args.lost) c.args.frame.now && t) (c.is_some.ensures ∙ ap is_some (c.would_write.ensures.simulates w c.self.invariant.pictured ∙ sym (ap (write_in w) due))) in
     after_own c.self.inside.begun c.self.inside.events.list c.make_room.new.events.list c.push.new.self.list c.self.inside.index c.self.inside.line c.bus.new.self c.self.inside.counts c.add.new.self c.self.inside.owed.list c.make_room.new.owed.list c.meet.new.self.list _ (Bus (option_to_list c.args.lost)) refl c.self.invariant c.in_ok-bus.ensures.next
-    (carried_right (run b es) c.args.frame.now (Bus (option_to_list c.args.lost)) (subst (λ (v : RunState). NothingCalled (seen v)) (sym c.self.view_is) c.requires.free) due (subst (λ (v : RunState). Bus (option_to_list c.args.lost) ≡ carried v c.args.frame.now) (sym c.self.view_is) c.requires.so) (allowed (mode_in c.self.inside.begun) c.self.inside.line w (Bus (option_to_list c.args.lost)) c.self.invariant.pictured (goes_over c.self.inside.line w c.args.frame.now c.self.invariant.pictured due))) c.make_room.ensures.events c.push.ensures c.in_ok-make_room.ensures.few c.make_room.ensures.owed c.meet.ensures
+    (carried_right (run b es) c.args.frame.now (Bus (option_to_list c.args.lost)) (subst (λ (v : RunState). NothingCalled (seen v)) (sym c.self.view_is) c.requires.free) due (subst (λ (v : RunState). Bus (option_to_list c.args.lost) ≡ carried v c.args.frame.now) (sym c.self.view_is) c.requires.so) (allowed (mode_in c.self.inside.begun) c.self.inside.line w (Bus (option_to_list c.args.lost)) c.self.invariant.pictured (goes_over c.self.inside.line w c.args.frame.now c.self.invariant.pictured due))) c.make_room.ensures.events c.push.ensures.list c.in_ok-make_room.ensures.few c.make_room.ensures.owed c.meet.ensures
     (two_called _ _ _ _ (c.frame_again-first.ensures (said b) c.self.invariant.indexed) (c.connection_closes-second.ensures (said b) c.self.invariant.indexed)
     ∙ bus_calls c.self.inside.begun c.self.inside.events.list c.self.inside.index c.self.inside.line c.self.inside.counts c.self.inside.owed.list c.self.invariant c.args.frame.now due (option_to_list c.args.lost) (c.comes_to-comes.result && c.would_be_taken.result) c.saturating_add-n.result c.saturating_add-k.result c.of-counts.result named taken c.saturating_add-n.ensures c.saturating_add-k.ensures c.of-counts.ensures)
     (subst (λ (x : CountsNow). AreCounts x (start_of b) (Bus (option_to_list c.args.lost) ∷ es)) (sym c.add.ensures.value)

@@ -32,7 +32,7 @@ invariant_of-self-2 c =
     = ap is_some (sym (write_alike c.self.inside.line w c.args.frame.now c.self.invariant.pictured due) ∙ ap (λ (v : RunState). write_due v.line) c.self.view_is ∙ c.requires.write) in
     let is : IsWritten w c.args.frame.now = is_written w c.args.frame.now some in
     after_own c.self.inside.begun c.self.inside.events.list c.make_room.new.events.list c.push.new.self.list c.self.inside.index c.self.inside.line c.bus_worn.new.self c.self.inside.counts c.add.new.self c.self.inside.owed.list c.make_room.new.owed.list c.meet.new.self.list _ (BusWorn (worn_octets (effect_due c.self.inside.line))) refl c.self.invariant c.in_ok-bus_worn.ensures.next
-    (carried_right (run b es) c.args.frame.now (BusWorn (worn_octets (effect_due c.self.inside.line))) (subst (λ (v : RunState). NothingCalled (seen v)) (sym c.self.view_is) c.requires.free) due (subst (λ (v : RunState). BusWorn (worn_octets (effect_due v.line)) ≡ carried v c.args.frame.now) (sym c.self.view_is) c.requires.so) (allowed (mode_in c.self.inside.begun) c.self.inside.line w (BusWorn (worn_octets (effect_due c.self.inside.line))) c.self.invariant.pictured (subst (λ l. Allows (mode_in c.self.inside.begun) c.self.inside.line (BusWorn l)) c.worn_octets-octets.ensures.value (c.worn_octets-octets.ensures.allowed (mode_in c.self.inside.begun) (subst (λ (v : RunState). write_due v.line ≡ Some Memory) (sym c.self.view_is) c.requires.write))))) c.make_room.ensures.events (c.push.ensures ∙ ap (λ x. BusWorn x ∷ c.make_room.new.events.list) (c.as_slice.ensures.value ∙ c.worn_octets-octets.ensures.value)) c.in_ok-make_room.ensures.few c.make_room.ensures.owed c.meet.ensures
+    (carried_right (run b es) c.args.frame.now (BusWorn (worn_octets (effect_due c.self.inside.line))) (subst (λ (v : RunState). NothingCalled (seen v)) (sym c.self.view_is) c.requires.free) due (subst (λ (v : RunState). BusWorn (worn_octets (effect_due v.line)) ≡ carried v c.args.frame.now) (sym c.self.view_is) c.requires.so) (allowed (mode_in c.self.inside.begun) c.self.inside.line w (BusWorn (worn_octets (effect_due c.self.inside.line))) c.self.invariant.pictured (subst (λ l. Allows (mode_in c.self.inside.begun) c.self.inside.line (BusWorn l)) c.worn_octets-octets.ensures.value (c.worn_octets-octets.ensures.allowed (mode_in c.self.inside.begun) (subst (λ (v : RunState). write_due v.line ≡ Some Memory) (sym c.self.view_is) c.requires.write))))) c.make_room.ensures.events (c.push.ensures.list ∙ ap (λ x. BusWorn x ∷ c.make_room.new.events.list) (c.as_slice.ensures.value ∙ c.worn_octets-octets.ensures.value)) c.in_ok-make_room.ensures.few c.make_room.ensures.owed c.meet.ensures
     (two_called _ _ _ _ (c.frame_again-first.ensures (said b) c.self.invariant.indexed) (c.connection_closes-second.ensures (said b) c.self.invariant.indexed)
     ∙ write_calls c.self.inside.begun c.self.inside.events.list c.self.inside.index c.self.inside.line c.self.inside.counts c.self.inside.owed.list c.self.invariant c.args.frame.now due (BusWorn (worn_octets (effect_due c.self.inside.line))) ([]) c.saturating_add-n.result c.saturating_add-m.result c.of-counts.result (sym due) refl refl is c.saturating_add-n.ensures c.saturating_add-m.ensures c.of-counts.ensures)
     (subst (λ (x : CountsNow). AreCounts x (start_of b) (BusWorn (worn_octets (effect_due c.self.inside.line)) ∷ es)) (sym c.add.ensures.value)

@@ -13,7 +13,7 @@ pub invariant_of-self-2 : goal.invariant_of-self-2
 invariant_of-self-2 c =
     after_own c.self.inside.begun c.self.inside.events.list c.make_room.new.events.list c.push.new.self.list c.self.inside.index c.self.inside.line c.dev_repeat.new.self c.self.inside.counts c.add.new.self c.self.inside.owed.list c.make_room.new.owed.list c.meet.new.self.list [] (DevRepeat c.args.device (at_gateway c.at_gateway-at.result)) refl c.self.invariant c.in_ok-dev_repeat.ensures.next
     (subst (λ v. IsRight v (DevRepeat c.args.device (at_gateway c.at_gateway-at.result))) (sym c.self.view_is) (subst (λ (x : AtGateway). IsRight c.args.self.now (DevRepeat c.args.device x)) (sym c.at_gateway-at.ensures) c.requires.right))
-    c.make_room.ensures.events c.push.ensures c.in_ok-make_room.ensures.few c.make_room.ensures.owed c.meet.ensures refl
+    c.make_room.ensures.events c.push.ensures.list c.in_ok-make_room.ensures.few c.make_room.ensures.owed c.meet.ensures refl
     (subst (λ (x : CountsNow). AreCounts x (start_of c.self.inside.begun) (DevRepeat c.args.device (at_gateway c.at_gateway-at.result) ∷ c.self.inside.events.list)) (sym c.add.ensures.value)
     (counted c.self.inside.counts (start_of c.self.inside.begun) c.self.inside.events.list (DevRepeat c.args.device (at_gateway c.at_gateway-at.result)) c.args.device _ (repeats_one _ c.args.device (at_gateway c.at_gateway-at.result)) c.add.ensures.places c.in_ok-make_room.ensures.few c.self.invariant.counted))
     c.add.ensures.line

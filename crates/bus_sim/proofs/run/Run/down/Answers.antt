@@ -19,7 +19,7 @@ pub invariant_of-self-2 : goal.invariant_of-self-2
 invariant_of-self-2 c =
     let exact = counted (start_of c.self.inside.begun) c.self.inside.events.list c.self.invariant.keeps.fresh c.self.invariant.few in
     after_own c.self.inside.begun c.self.inside.events.list c.make_room.new.events.list c.push.new.self.list c.self.inside.index c.self.inside.line c.down-octets.new.self c.self.inside.counts c.self.inside.counts c.self.inside.owed.list c.make_room.new.owed.list c.meet.new.self.list _ (Down c.args.age) refl c.self.invariant c.down-octets.ensures.next
-    (subst (λ v. IsRight v (Down c.args.age)) (sym c.self.view_is) c.requires.right) c.make_room.ensures.events c.push.ensures c.in_ok-make_room.ensures.few c.make_room.ensures.owed c.meet.ensures
+    (subst (λ v. IsRight v (Down c.args.age)) (sym c.self.view_is) c.requires.right) c.make_room.ensures.events c.push.ensures.list c.in_ok-make_room.ensures.few c.make_room.ensures.owed c.meet.ensures
     (one_called _ _ (c.reaches_again-first.ensures (said c.self.inside.begun) c.self.invariant.indexed
     ∙ ap (λ (k : ℕ). owed_if (repeats_down (said c.self.inside.begun) k) (ReachAgain k)) (c.number_down.ensures.exact _ c.self.invariant.pictured (fewer _ exact.down))))
     (uncounted c.self.inside.counts (start_of c.self.inside.begun) c.self.inside.events.list (Down c.args.age) (record { to = λ a. refl; from = λ a. refl; taken = λ a. takes_nothing _; wrote = λ a. writes_nothing _; connect = refl }) c.self.invariant.counted) refl

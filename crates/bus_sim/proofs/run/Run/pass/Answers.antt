@@ -19,5 +19,5 @@ invariant_of-self-2 c =
     let all : c.pass.result ≡ c.args.ms = fits c.args.ms _ _ c.pass.result time c.self.invariant.pictured.tunnel.now (c.pass.ensures.value ∙ ap (λ (k : ℕ). min k (last_time - c.self.inside.line.tunnel.now)) c.from.ensures) in
     after_own c.self.inside.begun c.self.inside.events.list c.make_room.new.events.list c.push.new.self.list c.self.inside.index c.self.inside.line c.pass.new.self c.self.inside.counts c.self.inside.counts c.self.inside.owed.list c.make_room.new.owed.list c.meet.new.self.list [] (Pass c.args.ms) refl c.self.invariant
     (subst (λ (k : ℕ). (w : World) → IsNow c.self.inside.line w → IsNow c.pass.new.self (step w (Pass k))) all c.pass.ensures.next)
-    (subst (λ v. IsRight v (Pass c.args.ms)) (sym c.self.view_is) c.requires.right) c.make_room.ensures.events c.push.ensures c.in_ok-make_room.ensures.few c.make_room.ensures.owed c.meet.ensures refl
+    (subst (λ v. IsRight v (Pass c.args.ms)) (sym c.self.view_is) c.requires.right) c.make_room.ensures.events c.push.ensures.list c.in_ok-make_room.ensures.few c.make_room.ensures.owed c.meet.ensures refl
     (uncounted c.self.inside.counts (start_of c.self.inside.begun) c.self.inside.events.list (Pass c.args.ms) (record { to = λ a. refl; from = λ a. refl; taken = λ a. takes_nothing _; wrote = λ a. writes_nothing _; connect = refl }) c.self.invariant.counted) refl

@@ -3,7 +3,7 @@ use Rattle.bus_sim.specs.Turned.{StopsPlaying}
 use Rattle.bus_sim.specs.Turns.{Turns, Gets, Happens, Passes, PassesQuietly}
 use Rattle.bus_sim.proofs.Faults.{at_most, no_less}
 use Rattle.bus_sim.proofs.Playing.{gives_or_not, plays_still, until_begins, until_ends, until_given, until_happens, until_passes}
-use Rattle.bus_sim.proofs.Polling.{OnErrAny}
+use Rattle.bus_sim.proofs.Polling.{OnErrAny, happens_smaller}
 use Rattle.bus_sim.proofs.run.Run.play.Goals as goal
 
 pub loop-letter-init : goal.loop-letter-init
@@ -28,6 +28,9 @@ returns-in_err-give-in-Got-clause-err g c =
     OnErrAny c.from_residual-in_err-give-in-Got.result (StopsPlaying c.args.self.now c.turn.new.self (g.P.Port.story c.args.port.now) (g.P.Port.story c.give.new.self))
     (gives_or_not c.args.self.now c.loop-letter.self c.turn.new.self c.loop-letter.left c.args.wait (g.P.Port.story c.args.port.now) (g.P.Port.story c.loop-letter.port) (g.P.Port.story c.give.new.self) c.in-Got.letter c.in-Got.letter.to c.as_slice.result.now
     c.loop-letter.invariant.plays gets refl c.as_slice.ensures.value c.in_err-give-in-Got.ensures.failed)
+
+pub loop-letter-smaller-in-Went : goal.loop-letter-smaller-in-Went
+loop-letter-smaller-in-Went g c = happens_smaller c.loop-letter.self c.turn.new.self c.few.ensures (subst (λ t. Turns t c.loop-letter.left c.loop-letter.self c.turn.new.self) c.in-Went.is c.in_ok-letter.ensures.turns)
 
 pub loop-letter-preserved-in-Went : goal.loop-letter-preserved-in-Went
 loop-letter-preserved-in-Went g c =

@@ -3,9 +3,9 @@ use Rattle.knx_model.specs.Connection.{last_time}
 use Rattle.line_model.specs.World.{Pass}
 use Rattle.bus_sim.specs.Polls.{StopsWithin}
 use Rattle.bus_sim.specs.RunNow.{RunNow}
-use Rattle.bus_sim.specs.Turns.{Turns, Gets, Happens, Passes, PassesQuietly}
+use Rattle.bus_sim.specs.Turns.{Turns, Gets, Passes, PassesQuietly}
 use Rattle.bus_sim.proofs.Faults.{no_less}
-use Rattle.bus_sim.proofs.Polling.{OnErrAny, smaller, goes_on, time_goes, stops, ends_got, ends_quiet}
+use Rattle.bus_sim.proofs.Polling.{OnErrAny, happens_smaller, smaller, goes_on, time_goes, stops, ends_got, ends_quiet}
 use Rattle.bus_sim.proofs.Turning.{goes_same}
 use Rattle.bus_sim.proofs.run.Run.run_for.Goals as goal
 
@@ -24,8 +24,7 @@ returns-in-Got-clause-ended c = ends_got c.args.self.now c.loop-letter.self c.tu
 
 pub loop-letter-smaller-in-Went : goal.loop-letter-smaller-in-Went
 loop-letter-smaller-in-Went c =
-    let h : Happens c.loop-letter.self c.turn.new.self = subst (λ t. Turns t c.loop-letter.left c.loop-letter.self c.turn.new.self) c.in-Went.is c.in_ok-letter.ensures.turns in
-    smaller c.loop-letter.self c.turn.new.self h.event c.few.ensures h.went
+    happens_smaller c.loop-letter.self c.turn.new.self c.few.ensures (subst (λ t. Turns t c.loop-letter.left c.loop-letter.self c.turn.new.self) c.in-Went.is c.in_ok-letter.ensures.turns)
 
 pub loop-letter-preserved-in-Went : goal.loop-letter-preserved-in-Went
 loop-letter-preserved-in-Went c = goes_on c.args.self.now c.loop-letter.self c.turn.new.self c.loop-letter.left c.args.wait c.requires.one c.loop-letter.invariant

@@ -1,7 +1,7 @@
 use Rattle.std.proofs.Common.{◌<◌, ◌≤◌, refl, ap, subst}
 use Rattle.bus_sim.specs.Polls.{StopsWithin}
 use Rattle.bus_sim.specs.Turns.{Turns, Passes, PassesQuietly}
-use Rattle.bus_sim.proofs.Polling.{OnErrAny, goes_on, time_goes, stops, ends_got, over_at}
+use Rattle.bus_sim.proofs.Polling.{OnErrAny, happens_smaller, goes_on, time_goes, stops, ends_got, over_at}
 use Rattle.bus_sim.proofs.Turning.{goes_same}
 use Rattle.bus_sim.proofs.run.Run.run_to_end.Goals as goal
 
@@ -14,6 +14,9 @@ returns-in_err-letter-clause-err c = OnErrAny c.from_residual.result (StopsWithi
 pub returns-in-Got-clause-got : goal.returns-in-Got-clause-got
 returns-in-Got-clause-got c = λ longer le. ends_got c.args.self.now c.loop-left.self c.turn.new.self c.in-Got.letter c.loop-left.left c.args.wait longer c.requires.one c.loop-left.invariant
     (subst (λ t. Turns t c.loop-left.left c.loop-left.self c.turn.new.self) c.in-Got.is c.in_ok-letter.ensures.turns) le
+
+pub loop-left-smaller-in-Went : goal.loop-left-smaller-in-Went
+loop-left-smaller-in-Went c = happens_smaller c.loop-left.self c.turn.new.self c.few.ensures (subst (λ t. Turns t c.loop-left.left c.loop-left.self c.turn.new.self) c.in-Went.is c.in_ok-letter.ensures.turns)
 
 pub loop-left-preserved-in-Went : goal.loop-left-preserved-in-Went
 loop-left-preserved-in-Went c = goes_on c.args.self.now c.loop-left.self c.turn.new.self c.loop-left.left c.args.wait c.requires.one c.loop-left.invariant

@@ -25,7 +25,7 @@ invariant_of-self-2 c =
     let new : c.acted.result ≡ length (step w (Up c.args.age)).tunnel.gateway.acted
     = c.acted.ensures.simulates (step w (Up c.args.age)) (goes w c.self.invariant.pictured) ∙ capped_few _ (let h = requests (start_of b) (Up c.args.age ∷ es) fresh in omega arith) in
     after_own c.self.inside.begun c.self.inside.events.list c.make_room.new.events.list c.push.new.self.list c.self.inside.index c.self.inside.line c.up.new.self c.self.inside.counts c.connect_if.new.self c.self.inside.owed.list c.make_room.new.owed.list c.meet.new.self.list _ (Up c.args.age) refl c.self.invariant goes
-    (subst (λ v. IsRight v (Up c.args.age)) (sym c.self.view_is) c.requires.right) c.make_room.ensures.events c.push.ensures few c.make_room.ensures.owed c.meet.ensures
+    (subst (λ v. IsRight v (Up c.args.age)) (sym c.self.view_is) c.requires.right) c.make_room.ensures.events c.push.ensures.list few c.make_room.ensures.owed c.meet.ensures
     (two_called _ _ _ _
     (c.comes_again-first.ensures (said b) c.self.invariant.indexed ∙ ap (λ (k : ℕ). owed_if (repeats_up (said b) k) (DeliverAgain k)) (c.number_up.ensures.exact w c.self.invariant.pictured (fewer _ exact.up)))
     (c.channel_closes-second.ensures (said b) c.self.invariant.indexed ∙ ap (λ (k : ℕ). owed_if (nat_lt k c.acted.result && drops (said b) c.acted.result) ChannelCloses) old

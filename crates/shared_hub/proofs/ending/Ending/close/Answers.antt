@@ -1,9 +1,6 @@
 use Rattle.std.proofs.Common.{◌≡◌, reverse, sym, ap, subst, ◌∙◌}
 use Rattle.std.proofs.lemmas.List.{reverse-reverse}
-use Rattle.line_model.specs.LinkStory.{record_in}
 use Rattle.line_model.specs.Log.{TurnUnfinished}
-use Rattle.shared_hub.proofs.Told.{told_heard, told_right}
-use Rattle.shared_hub.proofs.Causes.{told_caused}
 use Rattle.shared_hub.proofs.ending.Ending.close.Goals as goal
 
 pub returns-clause-tells : goal.returns-clause-tells
@@ -16,25 +13,21 @@ returns-clause-tells g c = λ workers seats.
       thorough = λ jobs are. rw (log_is, link_is) (c.keeps.ensures.thorough jobs are);
       hastens = λ jobs are. rw (log_is, link_is) (c.keeps.ensures.hastens jobs are);
       right = λ jobs are good. rw (log_is, link_is) (c.keeps.ensures.right jobs are good);
-      fault = λ jobs are.
-          told_right jobs (reverse c.close-link.result.log) c.close-link.result.fault c.told_fault.result (record_in (g.L.Link.story c.close-link.result.link)) c.told_fault.ensures.fault
-          (rw (log_is, c.close-link.ensures.fault, link_is) (c.keeps.ensures.fault jobs are));
+      fault = λ jobs are. rw (log_is, c.requires.fault, link_is) (c.keeps.ensures.fault jobs are);
       dropped = rw link_is c.close-link.ensures.dropped;
       form = λ jobs are. rw (log_is, link_is) (c.keeps.ensures.form jobs are);
       alone = λ jobs are. rw log_is (c.keeps.ensures.alone jobs are);
       in_order = λ jobs are. rw log_is (c.keeps.ensures.in_order jobs are);
       leaves = λ jobs are. rw (log_is, link_is) (c.requires.leaves jobs are);
       seats = rw log_is seats;
-      heard = told_heard c.close-link.result.fault c.told_fault.result c.close-link.result.missed c.into_list.result (record_in (g.L.Link.story c.close-link.result.link)) c.told_fault.ensures.fault
-          (rw (c.close-link.ensures.fault, c.close-link.ensures.missed, c.into_list.ensures, link_is) c.requires.heard);
-      over = λ fine jobs are. rw log_is ((c.requires.done (c.told_fault.ensures.none fine)).jobs jobs are);
-      told = λ fine. subst (λ l. TurnUnfinished c.args.self.hub.turns l → ⊥) (sym log_is) (c.requires.done (c.told_fault.ensures.none fine)).telegrams;
-      closed = λ fine. rw (log_is, link_is) (c.requires.closed (c.told_fault.ensures.none fine));
+      heard = rw (c.requires.fault, c.close-link.ensures.missed, c.into_list.ensures, link_is) c.requires.heard;
+      over = λ fine jobs are. rw log_is ((c.requires.done fine).jobs jobs are);
+      told = λ fine. subst (λ l. TurnUnfinished c.args.self.hub.turns l → ⊥) (sym log_is) (c.requires.done fine).telegrams;
+      closed = λ fine. rw (log_is, link_is) (c.requires.closed fine);
     }
 
 pub returns-clause-caused : goal.returns-clause-caused
-returns-clause-caused g c = λ before was.
-    told_caused c.close-link.result.fault c.told_fault.result before _ c.told_fault.ensures.fault (rw (c.close-link.ensures.fault, c.close-link.ensures.link) was)
+returns-clause-caused g c = λ before was. rw (c.requires.fault, c.close-link.ensures.link) was
 
 pub returns-clause-log : goal.returns-clause-log
 returns-clause-log g c = ap reverse c.close-link.ensures.log ∙ reverse-reverse c.args.self.hub.log

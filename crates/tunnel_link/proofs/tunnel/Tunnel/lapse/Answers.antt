@@ -1,5 +1,6 @@
 use Rattle.std.proofs.Common.{rules, sym, subst, ◌∙◌, ap, arith}
 use Rattle.line_model.specs.LinkStory.{IsTime}
+use Rattle.line_model.proofs.Counted.{stand}
 use Rattle.tunnel_link.proofs.CallAnswers.{lapse_call_keeps, lapse_call_goes, still_ok, still_err}
 use Rattle.tunnel_link.proofs.Caused.{cause_on}
 use Rattle.tunnel_link.proofs.Faulted.{lapsed_of, answers_of, passed_on}
@@ -29,4 +30,4 @@ returns-in_err-answered-clause-by_tunnel g c = passed_on c.answered.result _ c.i
 pub returns-in_err-answered-clause-cause : goal.returns-in_err-answered-clause-cause
 returns-in_err-answered-clause-cause g c =
     rw (← ap (λ v. v.link) c.self.view_is) (cause_on c.answered.result _ c.in_err-answered.field-0.0 (g.L.Link.faults c.self.inside.link) (g.L.Link.faults c.self.inside.link) (g.L.Link.faults c.answered.new.link) (search rules) (search rules)
-    (c.answered.ensures.cause (rw c.lapse-loss.ensures.next (lapsed_of _ _ (ap (λ v. v.known.fault) c.self.view_is ∙ c.requires.stands)))) (omega arith))
+    (c.answered.ensures.cause (rw c.lapse-loss.ensures.next (lapsed_of _ _ (ap (λ v. v.known.fault) c.self.view_is ∙ c.requires.stands)))) (stand _))

@@ -1,10 +1,9 @@
 use Rattle.std.proofs.Common.{ℕ, Bool, List, All, Option, Some, length, map, sym, ap, ◌∙◌, subst}
-use Rattle.std.specs.Prelude.{IfSome, IsSome}
+use Rattle.std.specs.Prelude.{IsSome}
 use Rattle.bus_sim.specs.RunNow.{world}
 use Rattle.knx_model.specs.declared.address.IndAddr.{IndAddr}
 use Rattle.knx_model.specs.declared.config.Image.{Image}
 use Rattle.line_model.specs.declared.group.GroupTurn.{GroupTurn}
-use Rattle.tunnel_link.specs.Rights.{FailsWhere}
 use Rattle.line_model.specs.Log.{Job}
 use Rattle.call_parts.specs.Jobs.{seen_job}
 use Rattle.call_parts.specs.Options as asked
@@ -31,8 +30,8 @@ pub returns-clause-runs : goal.returns-clause-runs
 returns-clause-runs g c = λ commission is options.
     let line = c.commission-line.result.0 in
     let report = c.commission-line.result.1 in
-    let cause : FaultsOfLine (Some report) line = faults_last report.fault line (still_one c.args.order.line.run line.run c.requires.one c.commission-line.ensures.commissioned.grows) c.keeps-2.ensures.faults
-    (subst (λ (before : ℕ). IfSome report.fault (λ fault. FailsWhere fault before line.faults)) c.requires.sound c.commission-line.ensures.commissioned.cause) in
+    let cause : FaultsOfLine (Some report) line = faults_last report.fault report c.args.order.line.faults c.args.order.line line c.requires.sound c.requires.new (still_one c.args.order.line.run line.run c.requires.one c.commission-line.ensures.commissioned.grows) c.keeps-2.ensures.faults
+    c.commission-line.ensures.commissioned.cause in
     let workers : ℕ = c.count.result in
     let log : Bool = c.args.options.now.log in
     runs_so commission c.args.sim.now line report c.args.order.jobs c.len-turn_count.result c.args.order.devices log c.end_of_run.result
@@ -45,8 +44,8 @@ pub returns-clause-link : goal.returns-clause-link
 returns-clause-link g c =
     let line = c.commission-line.result.0 in
     let report = c.commission-line.result.1 in
-    let cause : FaultsOfLine (Some report) line = faults_last report.fault line (still_one c.args.order.line.run line.run c.requires.one c.commission-line.ensures.commissioned.grows) c.keeps-2.ensures.faults
-    (subst (λ (before : ℕ). IfSome report.fault (λ fault. FailsWhere fault before line.faults)) c.requires.sound c.commission-line.ensures.commissioned.cause) in
+    let cause : FaultsOfLine (Some report) line = faults_last report.fault report c.args.order.line.faults c.args.order.line line c.requires.sound c.requires.new (still_one c.args.order.line.run line.run c.requires.one c.commission-line.ensures.commissioned.grows) c.keeps-2.ensures.faults
+    c.commission-line.ensures.commissioned.cause in
     fault_so line.run report c.args.order.jobs c.len-turn_count.result c.as_slice.result.now c.args.options.now.log c.end_of_run.result line c.end_of_run.ensures.shows cause
 
 pub returns-clause-watched : goal.returns-clause-watched

@@ -4,7 +4,7 @@ use Rattle.std.proofs.lemmas.Grind.{common_steps}
 use Rattle.line_model.specs.LinkStory.{newest_time}
 use Rattle.line_fixed.specs.Fixed.{brought, lasts, next_of, Answers}
 use Rattle.line_fixed.proofs.Answered.{polled_so}
-use Rattle.line_fixed.proofs.link.FixedLinkLink.poll.Goals as goal
+use Rattle.line_fixed.proofs.link.FixedLink.wait.Goals as goal
 
 pub returns-clause-polled : goal.returns-clause-polled
 returns-clause-polled c =
