@@ -10,14 +10,11 @@ use Rattle.line_model.specs.LinkStory.{Story, Untold, Recorded, Full, places_in,
 use Rattle.line_model.specs.ClientView.{channel, Nothing, deed}
 use Rattle.line_model.specs.Closing.{asks_to_end}
 use Rattle.line_model.specs.Renews.{is_late}
-use Rattle.tunnel_link.specs.declared.acted.Acted.{Acted}
-use Rattle.tunnel_link.specs.declared.came.Loss.{Loss}
-use Rattle.tunnel_link.specs.declared.came.Loss.TheVariants.{Stays}
 use Rattle.tunnel_link.specs.Goes.{GoesOn}
-use Rattle.tunnel_link.specs.Rights.{WhereTold}
-use Rattle.tunnel_link.specs.Adds.{place_of, Grows, Growing, AllNothing, Dues, DuesOne, Acts, is_told}
+use Rattle.tunnel_link.specs.Adds.{place_of, Growing, AllNothing, Dues, DuesOne, Acts}
 use Rattle.tunnel_link.proofs.Growth.{IsAbove, IsUpto, upto_more}
 use Rattle.tunnel_link.proofs.Places.{added_of}
+use Rattle.tunnel_link.proofs.SeekKept.{grows_as}
 
 -- ---- one call after another
 
@@ -97,53 +94,27 @@ dues_two false false old one two x y = rw (y.none, x.none) (record { nothing = t
 
 -- ---- all of it
 
-module _ (lapse : Result Loss HubFault) (s0 s1 : Story) (still : WhereTold (λ places. (lapse ≡ Ok Stays) × (s1 ≡ s0)) s0) where
-  -- nothing was done before
-  pub at_first : (P : List Placed → List Placed → Type 0) (u : Story) → Growing P s1 u → Growing P s0 u
-  at_first P u f old p = let h = (still old p).1 in subst (λ (s : Story). Grows P (place_of s) (place_of u) old u) h (f old (ap places_in h ∙ p))
+as_err : (answer : Result Bool HubFault) (fault : HubFault) → answer ≡ Err fault → (s t : Story) → Growing AllNothing s t → Growing (Acts answer) s t
+as_err answer fault e s t = grows_as AllNothing (Acts answer) s t (λ old added h. subst (λ (a : Result Bool HubFault). Acts a old added) (sym e) h)
 
-  pub act_lost : (P : List Placed → List Placed → Type 0) (fault : HubFault) → lapse ≡ Err fault → Growing P s0 s1
-  act_lost P fault e old p = absurd (let h = (still old p).0 in let g = sym e ∙ h in cc)
+as_dues : (s t : Story) (r q : Result Bool HubFault) → r ≡ q → Growing (Dues r) s t → Growing (Dues q) s t
+as_dues s t r q e x = subst (λ (a : Result Bool HubFault). Growing (Dues a) s t) e x
 
-  as_err : (answer : Result Acted HubFault) (fault : HubFault) → answer ≡ Err fault → (u : Story) → Growing AllNothing s0 u → Growing (Acts answer) s0 u
-  as_err answer fault e u f old p = let x = f old p in record { new = x.new; told = x.told; added = x.added; grown = x.grown; is = subst (λ (a : Result Acted HubFault). Acts a old x.added) (sym e) x.is }
+pub act_first : (s t : Story) (answer : Result Bool HubFault) (fault : HubFault) → answer ≡ Err fault → (again : Result Bool HubFault) → again ≡ Err fault → Growing (Dues again) s t → Growing (Acts answer) s t
+act_first s t answer fault e again q f = as_err answer fault e s t (as_dues s t again (Err fault) q f)
 
-  pub act_first : (answer : Result Acted HubFault) (fault : HubFault) → answer ≡ Err fault → (again : Result Bool HubFault) (u : Story) → again ≡ Err fault → Growing (Dues again) s1 u → Growing (Acts answer) s0 u
-  act_first answer fault e again u q f = as_err answer fault e u (at_first AllNothing u (λ old p. (let x = f old p in record { new = x.new; told = x.told; added = x.added; grown = x.grown; is = subst (λ (a : Result Bool HubFault). Dues a old x.added) q x.is })))
+module _ (s t u : Story) (r1 r2 : Result Bool HubFault) (g : GoesOn s t) (h : GoesOn t u) (f : Growing (Dues r1) s t) (d : Growing (Dues r2) t u) where
+  nothing_of : (b : Bool) (old added : List Placed) → Dues (Ok b) old added → AllNothing old added
+  nothing_of true old added x = x.nothing
+  nothing_of false old added x = rw x.none tt
 
-  module _ (s2 s3 : Story) (r1 r2 : Result Bool HubFault) (g : GoesOn s1 s2) (h : GoesOn s2 s3) (f : Growing (Dues r1) s1 s2) (d : Growing (Dues r2) s2 s3) where
-    as_dues : (s t : Story) (r q : Result Bool HubFault) → r ≡ q → Growing (Dues r) s t → Growing (Dues q) s t
-    as_dues s t r q e x = subst (λ (a : Result Bool HubFault). Growing (Dues a) s t) e x
+  pub act_second : (answer : Result Bool HubFault) (fault : HubFault) → answer ≡ Err fault → (again : Bool) → r1 ≡ Ok again → r2 ≡ Err fault → Growing (Acts answer) s u
+  act_second answer fault e again p q =
+      as_err answer fault e s u (grows_then (Dues (Ok again)) (Dues (Err fault)) AllNothing s t u g h (λ old one two x y. (nothing_two old one two (nothing_of again old one x) y))
+      (as_dues s t r1 (Ok again) p f) (as_dues t u r2 (Err fault) q d))
 
-    nothing_of : (b : Bool) (old added : List Placed) → Dues (Ok b) old added → AllNothing old added
-    nothing_of true old added x = x.nothing
-    nothing_of false old added x = rw x.none tt
-
-    pub act_second : (answer : Result Acted HubFault) (fault : HubFault) → answer ≡ Err fault → (again : Bool) → r1 ≡ Ok again → r2 ≡ Err fault → Growing (Acts answer) s0 s3
-    act_second answer fault e again p q =
-        as_err answer fault e s3 (at_first AllNothing s3 (grows_then (Dues (Ok again)) (Dues (Err fault)) AllNothing s1 s2 s3 g h (λ old one two x y. (nothing_two old one two (nothing_of again old one x) y))
-        (as_dues s1 s2 r1 (Ok again) p f) (as_dues s2 s3 r2 (Err fault) q d)))
-
-    acts_so : (again beat : Bool) (acted : Acted) (old added : List Placed) → acted ≡ record { sent = again || beat || is_told Stays; loss = Stays } → TwoDue again beat old added → Acts (Ok acted) old added
-    acts_so again beat acted old added e t = rw e (
-      t.nothing,
-      record {
-        loss = refl;
-        unsent = λ h. t.unsent (or_parts (again || beat) false h).0;
-        sent = λ h. t.sent (told_not again beat h);
-        only_sends = t.only_sends;
-        asks_no_end = t.asks_no_end;
-      },
-    )
-      where
-        told_not : (a b : Bool) → (a || b || false) ≡ true → (a || b) ≡ true
-        told_not true b h = refl
-        told_not false true h = refl
-        told_not false false h = absurd (cc)
-
-    pub act_all : (loss : Loss) (again beat : Bool) (acted : Acted) → lapse ≡ Ok loss → r1 ≡ Ok again → r2 ≡ Ok beat → acted ≡ record { sent = again || beat || is_told loss; loss = loss } → Growing (Acts (Ok acted)) s0 s3
-    act_all loss again beat acted l p q e old o =
-        let stays : (loss ≡ Stays) = (let a = (still old o).0 in let b = sym l ∙ a in cc) in
-        at_first (Acts (Ok acted)) s3 (grows_then (Dues (Ok again)) (Dues (Ok beat)) (Acts (Ok acted)) s1 s2 s3 g h
-        (λ old one two x y. (acts_so again beat acted old (two ++ one) (e ∙ ap (λ (k : Loss). record { sent = again || beat || is_told k; loss = k }) stays) (dues_two again beat old one two x y)))
-        (as_dues s1 s2 r1 (Ok again) p f) (as_dues s2 s3 r2 (Ok beat) q d)) old o
+  pub act_all : (again beat sent : Bool) → r1 ≡ Ok again → r2 ≡ Ok beat → sent ≡ (again || beat) → Growing (Acts (Ok sent)) s u
+  act_all again beat sent p q e =
+      rw e (grows_then (Dues (Ok again)) (Dues (Ok beat)) (Acts (Ok (again || beat))) s t u g h
+      (λ old one two x y. (let due = dues_two again beat old one two x y in (due.nothing, record { unsent = due.unsent; sent = due.sent; only_sends = due.only_sends; asks_no_end = due.asks_no_end })))
+      (as_dues s t r1 (Ok again) p f) (as_dues t u r2 (Ok beat) q d))

@@ -1,5 +1,5 @@
 -- The calls over a link, as their code makes them.
-use Rattle.std.proofs.Common.{◌≡◌, ℕ, List, [], ◌∷◌, Bool, true, false, Option, Some, None, Result, Ok, Err, refl, sym, subst, ap, ◌∙◌}
+use Rattle.std.proofs.Common.{◌≡◌, ℕ, List, [], ◌∷◌, Bool, true, false, Option, Some, None, Result, Ok, Err, refl, sym, subst}
 use Rattle.std.specs.Prelude.{is_some}
 use Rattle.line_model.specs.declared.fault.HubFault.{HubFault}
 use Rattle.line_model.specs.Reading.{datagram_in, disconnect_request_in}
@@ -9,25 +9,19 @@ use Rattle.line_model.specs.ClientView.{channel, Puts, Nothing}
 use Rattle.line_model.specs.Closing.{is_open}
 use Rattle.line_model.specs.ClientEnd.{IsCemi, MayConnect, channel_put, channel_expired, channel_left}
 use Rattle.tunnel_channel.specs.Follows.{sent_by}
-use Rattle.tunnel_link.specs.declared.came.Loss.{Loss}
-use Rattle.tunnel_link.specs.declared.came.Loss.TheVariants.{Stays}
-use Rattle.tunnel_link.specs.declared.came.What.TheVariants as came
-use Rattle.tunnel_link.specs.declared.came.Answer.{Answer}
 use Rattle.tunnel_link.specs.declared.known.Known.{Known}
 use Rattle.tunnel_link.specs.Goes.{Goes, KeepsAll}
-use Rattle.tunnel_link.specs.Kept.{only, with_due, with_put, with_leave, lapsed, lapse_answer}
-use Rattle.tunnel_link.specs.Rights.{FitsRecord, IsKept, WhereTold}
+use Rattle.tunnel_link.specs.Kept.{with_due, with_put, with_leave}
+use Rattle.tunnel_link.specs.Rights.{WhereTold}
 use Rattle.tunnel_link.specs.Adds.{place_of, Grows, Growing, PutsOne, AllNothing, Leaves, LeavesSo, Seeks, SeeksSo, Dues, DuesOne, asks_end}
-use Rattle.tunnel_link.specs.Calls.{SendsSo, AnswersSo, Stands, Unsent, ConnectsSo}
-use Rattle.tunnel_link.proofs.MaySend.{Sending, not_over, not_late}
+use Rattle.tunnel_link.specs.Calls.{SendsSo, ConnectsSo}
+use Rattle.tunnel_link.proofs.MaySend.{Sending}
 use Rattle.tunnel_link.proofs.Steps.{left_asks, asks_read, expires}
 use Rattle.tunnel_link.proofs.DueLate.{due_late}
-use Rattle.tunnel_link.proofs.Places.{where_after, unmoved, sent_grows, one_sent}
+use Rattle.tunnel_link.proofs.Places.{unmoved, sent_grows, one_sent}
 use Rattle.tunnel_link.proofs.Stories.{sends_goes, sends_or_goes}
-use Rattle.tunnel_link.proofs.Lapses.{Gives, lapsed_none}
 use Rattle.tunnel_link.proofs.CallsKept.{time_is, due_may, due_keeps, put_may, leave_may, open_is, put_adds, sends_keeps, nothing_adds}
 use Rattle.tunnel_link.proofs.SeekKept.{grows_as, SeekAdds, are_polls, seek_adds}
-use Rattle.tunnel_link.proofs.PollKept.{answers_go}
 
 pub sends_go_on : {X : Type 0} (r : Result X HubFault) (octets : List ℕ) (next new : Known) (before after : Story) → SendsSo r octets next new before after → Goes before after
 sends_go_on (Ok x) octets next new before after s = sends_goes octets before after s.1
@@ -81,32 +75,6 @@ module _ (k next new : Known) (before after : Story) (all : KeepsAll k before) (
 
     pub due_call_keeps : KeepsAll new after
     due_call_keeps = sends_keeps next new octets Nothing before after all.legal due_so r s
-
-  -- ---- what the time has ended: between calls nothing
-
-  module _ {X : Type 0} (r : Result X HubFault) (now : ℕ) (answer : Answer) (t : IsTime now before) (n : next ≡ lapsed k now) (a : answer ≡ lapse_answer came.Quiet k now) (s : AnswersSo r answer.sends next new before after) where
-    pub rests : (old : List Placed) → places_in before ≡ Some old → Gives came.Quiet k now k (only came.Quiet)
-    rests old p =
-        let same : (now ≡ newest_time (entries old)) = time_is now before old all.legal t p in
-        let f : FitsRecord k (entries old) = (all.kept old p).fits calm in
-        subst (λ (m : ℕ). Gives came.Quiet k m k (only came.Quiet)) (sym same) (lapsed_none came.Quiet k (newest_time (entries old)) (not_late k (entries old) f) (not_over k (entries old) f))
-
-    pub still : (old : List Placed) → places_in before ≡ Some old → Unsent r k new before after
-    still old p =
-        let g = rests old p in
-        let at : (next ≡ k) = n ∙ g.known in
-        let none : (answer ≡ only came.Quiet) = a ∙ g.is in
-        subst (λ (x : Known). AnswersSo r None x new before after) at (subst (λ (x : Answer). AnswersSo r x.sends next new before after) none s)
-
-    pub lapse_call_goes : Goes before after
-    lapse_call_goes = answers_go r answer.sends next new before after s
-
-    pub lapse_call_keeps : KeepsAll new after
-    lapse_call_keeps = record {
-      legal = lapse_call_goes.keeps all.legal;
-      kept = where_after (λ places. IsKept new (entries places)) before after lapse_call_goes.on (λ old p.
-          let u = still old p in record { new = old; told = ap places_in u.story ∙ p; is = rw u.known (all.kept old p) });
-    }
 
 -- ---- where nothing is sent
 
@@ -167,17 +135,3 @@ module _ (k : Known) (before : Story) (all : KeepsAll k before) (calm : k.fault 
   due_none now t q old p =
       let same : (now ≡ newest_time (entries old)) = time_is now before old all.legal t p in
       unmoved (Dues (Ok false)) before before old refl p (record { none = refl; in_time = due_late k (entries old) ((all.kept old p).fits calm) (subst (λ (m : ℕ). sent_by (channel_expired k.channel m) ≡ None) same q) })
-
--- ---- between calls the time has ended nothing
-
-module _ (k next new : Known) (before after : Story) (all : KeepsAll k before) (calm : k.fault ≡ None) where
-  module _ {X : Type 0} (r : Result X HubFault) (now : ℕ) (answer : Answer) (t : IsTime now before) (n : next ≡ lapsed k now) (a : answer ≡ lapse_answer came.Quiet k now) (s : AnswersSo r answer.sends next new before after) where
-    pub still_ok : {Y : Type 0} (result : Result Loss Y) → result ≡ Ok answer.loss → WhereTold (λ places. (result ≡ Ok Stays) × (after ≡ before)) before
-    still_ok result e old p =
-        let g = rests k next new before after all calm r now answer t n a s old p in
-        (e ∙ ap (λ (x : Answer). Ok x.loss) (a ∙ g.is), (still k next new before after all calm r now answer t n a s old p).story)
-
-    pub still_err : (fault : HubFault) → r ≡ Err fault → (P : List Placed → Type 0) → WhereTold P before
-    still_err fault e P old p =
-        let u = still k next new before after all calm r now answer t n a s old p in
-        absurd (let h : (k.fault ≡ Some fault) = subst (λ (x : Result X HubFault). Stands x k) e u.stands in cc)

@@ -57,7 +57,7 @@ expiry_of due.NoAnswer k c = refused_of _
 expiry_of (due.Beat octets) k c = calm_of k c
 expiry_of due.Dead k c = calm_of k c
 
-pub lapsed_of : (k : Known) (now : ℕ) → k.fault ≡ None → IsOfTries (lapsed k now).fault
+lapsed_of : (k : Known) (now : ℕ) → k.fault ≡ None → IsOfTries (lapsed k now).fault
 unfolding lapsed
 lapsed_of k now c =
     either_of (is_unconfirmed_now k now) (left (record k { channel = lost k.channel })) (cond (is_over k.channel now) (after_expiry (channel_expired k.channel now) (with_due k now)) k) (calm_of k c)
@@ -110,7 +110,7 @@ pub connects_of : {X : Type 0} (r : Result X HubFault) (k new : Known) (before a
 connects_of r k new before after (inl c) = sends_of r _ _ new c.between after c.sends
 connects_of r k new before after (inr u) = err_of r u.fault u.answer (link_of u.fault u.fails.of_link)
 
-pub answers_of : {X : Type 0} (r : Result X HubFault) (sends : Option (List ℕ)) (k new : Known) (before after : Story) → IsOfTries k.fault → AnswersSo r sends k new before after → IfErr r IsOfTunnel
+answers_of : {X : Type 0} (r : Result X HubFault) (sends : Option (List ℕ)) (k new : Known) (before after : Story) → IsOfTries k.fault → AnswersSo r sends k new before after → IfErr r IsOfTunnel
 answers_of (Ok x) sends k new before after h s = tt
 answers_of (Err fault) None k new before after h u = tries_of_tunnel fault (subst IsOfTries u.stands h)
 answers_of (Err fault) (Some octets) k new before after h (inl s) = tries_of_tunnel fault (subst IsOfTries s.stands h)

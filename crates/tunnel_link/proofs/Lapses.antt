@@ -144,7 +144,7 @@ up_expires (JustLost c) e now h o = absurd (cc)
 abbrev pub gone_answer : What → ℕ → Answer
 gone_answer what c = record { what = what; loss = Told; sends = Some (Written (DisconnectRequest c)) }
 
-pub record Gives (what : What) (k : Known) (now : ℕ) (next : Known) (answer : Answer) : Type 0 where
+record Gives (what : What) (k : Known) (now : ℕ) (next : Known) (answer : Answer) : Type 0 where
   pub known : lapsed k now ≡ next
   pub is : lapse_answer what k now ≡ answer
 
@@ -160,7 +160,7 @@ lapsed_gone what k now e is false q over = by_way (up_expires k.channel e now is
     by_way (inl h) = record { known = rw (q, passed, h, lost_is k.channel e is) refl; is = rw (q, passed, h, lost_is k.channel e is) refl }
     by_way (inr h) = record { known = rw (q, passed, h, lost_is k.channel e is) refl; is = rw (q, passed, h, lost_is k.channel e is) refl }
 
-pub lapsed_none : (what : What) (k : Known) (now : ℕ) → is_late k.flight now ≡ false → is_over k.channel now ≡ false → Gives what k now k (only what)
+lapsed_none : (what : What) (k : Known) (now : ℕ) → is_late k.flight now ≡ false → is_over k.channel now ≡ false → Gives what k now k (only what)
 unfolding lapsed lapse_answer
 lapsed_none what k now q o = record { known = rw (q, o) refl; is = rw (q, o) refl }
 

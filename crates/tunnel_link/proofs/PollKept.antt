@@ -27,7 +27,7 @@ use Rattle.tunnel_link.proofs.PollCalls.{PollOf, by_answer, waited_fails}
 abbrev pub HasTunnels : Type 0
 HasTunnels = (octets : List ℕ) (frame : IpFrame) → datagram_in octets ≡ Some frame → HasTunnelIfUp frame
 
-pub answers_go : {X : Type 0} (result : Result X HubFault) (sends : Option (List ℕ)) (k new : Known) (before after : Story) → AnswersSo result sends k new before after → Goes before after
+answers_go : {X : Type 0} (result : Result X HubFault) (sends : Option (List ℕ)) (k new : Known) (before after : Story) → AnswersSo result sends k new before after → Goes before after
 answers_go result None k new before after u = stays before after u.story
 answers_go result (Some octets) k new before after (inl s) = sends_goes octets before after s.story
 answers_go result (Some octets) k new before after (inr f) = sends_or_goes octets before after f.story

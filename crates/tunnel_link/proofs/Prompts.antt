@@ -1,6 +1,6 @@
 -- Which calls take no time: those that poll nothing. Of a poll: how long it lasts, which heartbeats it passes over, and when it is prompt. And where a call
 -- leaves nothing due.
-use Rattle.std.proofs.Common.{◌≡◌, inl, inr, ℕ, ◌+◌, ◌≤◌, min, List, [], ◌++◌, false, None, Result, Ok, Err, refl, sym, subst, ap, ◌∙◌, arith}
+use Rattle.std.proofs.Common.{◌≡◌, inl, inr, ℕ, ◌+◌, ◌≤◌, min, List, [], ◌++◌, false, None, Result, Ok, refl, sym, subst, ap, ◌∙◌, arith}
 use Rattle.knx_model.specs.declared.frames.ip.IpFrame.TheVariants.{ConnectRequest}
 use Rattle.knx_model.specs.KnxNetIp.{Written}
 use Rattle.line_model.specs.declared.fault.HubFault.{HubFault}

@@ -1,6 +1,6 @@
 -- The frame that was put last in the open channel, and the tunnel's own address: which entries leave them, and what of the gateway's next request
 -- counts by them.
-use Rattle.std.proofs.Common.{◌≡◌, ◌≢◌, ℕ, List, [], ◌∷◌, Bool, true, false, not, ◌&&◌, ◌||◌, cond, Option, Some, None, refl, sym, ap, ◌∙◌, subst}
+use Rattle.std.proofs.Common.{◌≡◌, ◌≢◌, ℕ, List, [], ◌∷◌, Bool, true, false, ◌&&◌, cond, Option, Some, None, refl, sym, ap, ◌∙◌, subst}
 use Rattle.std.specs.Prelude.{◌==◌, if◌then◌else◌}
 use Rattle.knx_model.specs.declared.address.IndAddr.{IndAddr}
 use Rattle.knx_model.specs.declared.frames.cemi.Ldata.{Ldata}
@@ -9,7 +9,7 @@ use Rattle.knx_model.specs.declared.frames.ip.IpFrame.TheVariants.{ConnectReques
 use Rattle.knx_model.specs.Connection.{has_passed}
 use Rattle.line_model.specs.Reading.{datagram_in, ldata_in, is_con, is_connect_request, RequestFrame, request_in}
 use Rattle.line_model.specs.Record.{Item, Put, Renewed, Got, Quiet, Entry, entry, got_in, is_poll}
-use Rattle.line_model.specs.ChannelLost.{answer_wait, is_new_request, last_frame, is_confirmation, is_alike, is_confirmation_of, is_lost}
+use Rattle.line_model.specs.ChannelLost.{answer_wait, is_new_request, last_frame, is_alike, is_confirmation_of, is_lost}
 use Rattle.line_model.specs.ClientView as seen
 use Rattle.line_model.specs.ClientView.{ClientChannel, after_entry, after_sought, sought_got, Deed, Puts, Takes, Loses, Nothing, own_address, as_counted, counts, traffic, deed}
 use Rattle.line_model.specs.Faults.{opens}

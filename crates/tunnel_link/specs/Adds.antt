@@ -16,7 +16,6 @@ use Rattle.line_model.specs.Signs.{Every}
 use Rattle.line_model.specs.Renews.{is_left, is_late, PollsPromptly}
 use Rattle.line_model.specs.Asks.{HasPlace, moment_of}
 use Rattle.tunnel_link.specs.Alone.{Each}
-use Rattle.tunnel_link.specs.declared.acted.Acted.{Acted}
 use Rattle.tunnel_link.specs.declared.came.Came.{Came}
 use Rattle.tunnel_link.specs.declared.came.Loss.{Loss}
 use Rattle.tunnel_link.specs.declared.came.Loss.TheVariants.{Stays, Ended, Told}
@@ -111,12 +110,11 @@ pub record Leaves (result : Result Bool HubFault) (old added : List Placed) : Ty
   pub nothing : AllNothing old added
   pub so : LeavesSo result old added
 
--- ---- what is due: between calls nothing has lapsed, so nothing is lost in it
+-- ---- what is due: where nothing was sent nothing is late
 
-pub record ActsSo (acted : Acted) (old added : List Placed) : Type 0 where
-  pub loss : acted.loss ≡ Stays
-  pub unsent : acted.sent ≡ false → (added ≡ []) × (is_late (channel (entries old)) (newest_time (entries old)) ≡ false)
-  pub sent : acted.sent ≡ true → added ≢ []
+pub record ActsSo (acted : Bool) (old added : List Placed) : Type 0 where
+  pub unsent : acted ≡ false → (added ≡ []) × (is_late (channel (entries old)) (newest_time (entries old)) ≡ false)
+  pub sent : acted ≡ true → added ≢ []
   pub only_sends : list_any (λ (p : Placed). is_poll p.what.what) added ≡ false
   pub asks_no_end : asks_end added ≡ false
 
@@ -136,7 +134,7 @@ Dues (Ok true) old added = DuesOne old added
 Dues (Ok false) old added = DuesNone old added
 Dues (Err fault) old added = AllNothing old added
 
-abbrev pub Acts : Result Acted HubFault → List Placed → List Placed → Type 0
+abbrev pub Acts : Result Bool HubFault → List Placed → List Placed → Type 0
 Acts (Ok acted) old added = AllNothing old added × ActsSo acted old added
 Acts (Err fault) old added = AllNothing old added
 

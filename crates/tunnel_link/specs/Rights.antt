@@ -1,7 +1,7 @@
 -- What the client's end of a tunnel keeps of its link's record, by the record alone: always that it renewed, sent and acknowledged rightly, and told
 -- the gateway of each loss of the channel, how many datagrams were dropped and how many were got, and that three failed tries are those of the record; and until it has ended that what it
 -- knows is what the record says.
-use Rattle.std.specs.Prelude.{◌≡◌, ℕ, ◌<◌, ◌^◌, ◌-◌, min, Bool, true, false, not, ◌&&◌, is_none, List, [], ◌∷◌, length, reverse, Option, Some, None}
+use Rattle.std.specs.Prelude.{◌≡◌, ℕ, ◌<◌, ◌^◌, ◌-◌, min, Bool, true, false, ◌&&◌, is_none, List, [], ◌∷◌, length, reverse, Option, Some, None}
 use Rattle.knx_model.specs.Outside.{Rose}
 use Rattle.knx_model.specs.declared.address.IndAddr.{IndAddr}
 use Rattle.knx_model.specs.declared.frames.cemi.Ldata.{Ldata}
@@ -20,7 +20,7 @@ use Rattle.line_model.specs.Sendings.{SendsRightly}
 use Rattle.line_model.specs.Leaves.{PartsRightly, parting_of}
 use Rattle.line_model.specs.Dropped as drop
 use Rattle.line_model.specs.Faults.{tries, datagrams_taken}
-use Rattle.line_model.specs.ClientEnd.{ClientEnd, Idle, Seeking, Open, Leaving, JustLost, is_over, put_refused}
+use Rattle.line_model.specs.ClientEnd.{ClientEnd, Idle, Seeking, Open, Leaving, JustLost, put_refused}
 use Rattle.line_model.specs.ChannelLost.{last_frame}
 use Rattle.tunnel_channel.specs.Fits.{HasBegun, HasNone, KnowsOpen, acknowledged_in, confirmed_in}
 use Rattle.tunnel_channel.specs.Follows.{IsCurrent}
@@ -155,5 +155,5 @@ abbrev pub WhileFits : (List Entry → Type 0) → Known → Story → Type 0
 WhileFits P k story = k.fault ≡ None → WhereTold (λ places. P (entries places)) story
 
 -- a request can be put
-abbrev pub has_place : Known → ℕ → Bool
-has_place k now = is_none (put_refused k.channel) && k.flight.confirmed && not (is_over k.channel now)
+abbrev pub has_place : Known → Bool
+has_place k = is_none (put_refused k.channel) && k.flight.confirmed

@@ -49,10 +49,10 @@ impl Known {
     }
 
     /// Whether a request can be put.
-    pub fn has_place(&self, now: u64) -> bool
-        ensures { result ≡ has_place self.now now }
+    pub fn has_place(&self) -> bool
+        ensures { result ≡ has_place self.now }
     {
-        self.channel.refuses().is_none() && self.flight.confirmed && !self.channel.is_over(now)
+        self.channel.refuses().is_none() && self.flight.confirmed
     }
 
     /// The connect request, on a new endpoint.

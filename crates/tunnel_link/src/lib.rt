@@ -18,7 +18,6 @@
 //! ```
 #![tactic(auto)]
 
-mod acted;
 mod came;
 mod flight;
 mod got;
@@ -28,7 +27,6 @@ mod sending;
 mod tries;
 mod tunnel;
 
-pub use acted::Acted;
 pub use came::{Answer, Came, Loss, What};
 pub use flight::Flight;
 pub use known::Known;

@@ -1,22 +1,20 @@
 //! What is done on the link.
 
-ghost use Rattle.std.specs.Prelude.{◌≡◌, ◌≤◌, IfErr, OnOk, Ok, Some, None};
+ghost use Rattle.std.specs.Prelude.{◌≡◌, ◌≤◌, IfErr, OnOk, Some, None};
 ghost use Rattle.line_model.specs.ClientEnd.{IsCemi};
 ghost use Rattle.line_model.specs.LinkStory.{IsTime, clock_of};
 ghost use Rattle.line_model.specs.Polled.{NeverFall};
 ghost use Rattle.tunnel_link.specs.Alone.{Each, EndsNone, LeavesAlone, SendsOnce};
 ghost use Rattle.tunnel_link.specs.Goes.{GoesOn, AfterFault};
-ghost use Rattle.tunnel_link.specs.Rights.{FailsWhere, IsOfTunnel, WhereTold};
+ghost use Rattle.tunnel_link.specs.Rights.{FailsWhere, IsOfTunnel};
 ghost use Rattle.tunnel_link.specs.Adds.{Growing, place_of, Seeks, PutsOne, Leaves, Dues, Acts, PollAdds, AllPrompt, HasActed, Ready};
 ghost use Rattle.tunnel_link.specs.Kept.{with_due};
 ghost use Rattle.tunnel_link.specs.Lasts.{LastsRightly};
 ghost use Rattle.tunnel_link.specs.Paces.{BeatsInTime, PollsWithin, TakesNoTime};
-ghost use Rattle.tunnel_link.specs.declared.came.Loss.TheVariants.{Stays};
 
 use super::Tunnel;
-use crate::acted::Acted;
-use crate::came::{Answer, Came, Loss, What};
-use crate::sending::{answered, connected, listened, sent};
+use crate::came::Came;
+use crate::sending::{connected, listened, sent};
 use knx_model::Datagram;
 use line_model::{HubFault, LONGEST_POLL_MS, Link, frames_are_read, until};
 
@@ -97,9 +95,8 @@ impl<L: Link> Tunnel<L> {
         }
     }
 
-    /// Does what is due: a channel or a try that the time has ended is given up, the request that isn't acknowledged is sent again, a heartbeat
-    /// is sent.
-    pub fn act(&mut self) -> Result<Acted, HubFault>
+    /// Sends what is due: the request that isn't acknowledged, once more, or a heartbeat. Tells whether there was something.
+    pub fn act(&mut self) -> Result<bool, HubFault>
         ensures grows { GoesOn (L.story self.old.link) (L.story self.new.link) }
         ensures adds { Growing (Acts result) (L.story self.old.link) (L.story self.new.link) }
         ensures fault { IfErr result (λ fault. self.new.known.fault ≡ Some fault) }
@@ -117,32 +114,10 @@ impl<L: Link> Tunnel<L> {
     {
         self.known.standing()?;
         let now = self.link.now();
-        let loss = self.lapse(now)?;
         let again = self.send_due(now)?;
         let beat = self.send_due(now)?;
         let _link = &self.link;
-        Ok(Acted::new(loss, again, beat))
-    }
-
-    /// Gives up a channel or a try that the time has ended.
-    fn lapse(&mut self, now: u64) -> Result<Loss, HubFault>
-        requires time { IsTime now (L.story self.old.link) }
-        requires stands { self.old.known.fault ≡ None }
-        ensures still { WhereTold (λ places. (result ≡ Ok Stays) × (L.story self.new.link ≡ L.story self.old.link)) (L.story self.old.link) }
-        ensures told { OnOk result (IsTime now (L.story self.new.link)) }
-        ensures grows { GoesOn (L.story self.old.link) (L.story self.new.link) }
-        ensures fault { IfErr result (λ fault. self.new.known.fault ≡ Some fault) }
-        ensures stands { OnOk result (self.new.known.fault ≡ None) }
-        ensures by_tunnel { IfErr result IsOfTunnel }
-        ensures time { L.clock self.old.link ≤ L.clock self.new.link }
-        ensures count { NeverFall (L.faults self.old.link) (L.faults self.new.link) }
-        ensures events { L.place self.old.link ≤ L.place self.new.link }
-        ensures script { L.script self.new.link ≡ L.script self.old.link }
-        ensures cause { IfErr result (λ fault. FailsWhere fault (L.faults self.old.link) (L.faults self.new.link)) }
-    {
-        let Answer { loss, sends, .. } = self.known.lapse(What::Quiet, now);
-        answered(&mut self.link, &mut self.known, sends)?;
-        Ok(loss)
+        Ok(again || beat)
     }
 
     /// Sends the request that is due again, or else the heartbeat, which takes no time. Tells whether there was one.

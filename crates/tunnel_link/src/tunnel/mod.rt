@@ -111,7 +111,7 @@ impl<L: Link> Tunnel<L> {
     pub fn has_place(&self) -> bool
         ensures told { WhileFits (λ r. (result ≡ true) ↔ HasPlace (channel r)) self.now.known (L.story self.now.link) }
     {
-        self.known.has_place(self.link.now())
+        self.known.has_place()
     }
 
     /// The nearest time at which something becomes due. Before it nothing is late.
