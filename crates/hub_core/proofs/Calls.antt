@@ -9,14 +9,12 @@ use Rattle.line_model.specs.LinkStory.{Story, places_in, newest_time}
 use Rattle.line_model.specs.Signs.{Every}
 use Rattle.line_model.specs.Log.{Job}
 use Rattle.tunnel_link.specs.Adds.{place_of, moments_on, Added, Grows, Growing, AllNothing, PutsNone, Acts, Seeks, Leaves, PollAdds}
-use Rattle.tunnel_link.specs.declared.acted.Acted.{Acted}
-use Rattle.tunnel_link.specs.declared.came.Loss.{Loss}
 use Rattle.tunnel_link.specs.Goes.{GoesOn}
 use Rattle.tunnel_link.specs.Rights.{IsOfTunnel, WhereTold}
 use Rattle.hub_work.specs.declared.work.Work.{Work}
 use Rattle.hub_work.specs.Follows.{AsideFollows, StaysFitting}
 use Rattle.hub_core.specs.Keeps.{HasOwnCause, Keeps}
-use Rattle.hub_core.specs.Taking.{SameWork, FollowsAll, LosesIn}
+use Rattle.hub_core.specs.Taking.{SameWork, FollowsAll}
 use Rattle.hub_core.proofs.Counting.{some_is, place_grows, places_ascend}
 use Rattle.hub_core.proofs.Keeps.{books_same, same_log, Tolds, HastensOn, Opens, moves}
 use Rattle.hub_core.proofs.Quiet.{Asides, nothing_aside, asides_fit, fits_after, quiet_told, quiet_runs}
@@ -77,10 +75,10 @@ module _ (p q : ℕ) (s t : Story) (met : Bool) (f g : Option HubFault) (none : 
   acts_failed w fault adds is tunnel hastens k =
       moves p q s t w w met met f g none le (same_refl w) goes (failed s t w w met (Acts (Err fault)) goes (same_refl w) adds (λ old added h. nothings_put (moments_on old added) h) met g fault is tunnel) hastens (opens_not w w fault is) k
 
-  pub acts_done : (w v : Work) (acted : Acted) (now : ℕ) → Growing (Acts (Ok acted)) s t → g ≡ None → SameWork w v → StaysFitting → LosesIn acted.loss now w v → WhereTold (λ places. now ≡ newest_time (entries places)) t → HastensOn s t w → Opens s t w v g → Keeps p s w met f → Keeps q t v met g
-  acts_done w v acted now adds stands same law loses told hastens opens k =
-      moves p q s t w v met met f g none le same goes
-      (quiet s t w v met (Acts (Ok acted)) goes same adds now law told (λ old added h. (h.0, sent_not_got added h.1.only_sends, subst (λ (x : Loss). LosesIn x now w v) h.1.loss loses)) g stands) hastens opens k
+  pub acts_done : (w : Work) (acted : Bool) (now : ℕ) → Growing (Acts (Ok acted)) s t → g ≡ None → StaysFitting → AsideFollows → WhereTold (λ places. now ≡ newest_time (entries places)) t → HastensOn s t w → Opens s t w w g → Keeps p s w met f → Keeps q t w met g
+  acts_done w acted now adds stands law aside told hastens opens k =
+      moves p q s t w w met met f g none le (same_refl w) goes
+      (quiet s t w w met (Acts (Ok acted)) goes (same_refl w) adds now law told (λ old added h. (h.0, sent_not_got added h.1.only_sends, asides_fit w now aside)) g stands) hastens opens k
 
   pub seeks_kept : (w : Work) (result : Result Bool HubFault) (now : ℕ) → Growing (Seeks result) s t → IfErr result (λ fault. g ≡ Some fault) → OnOk result (g ≡ None) → IfErr result IsOfTunnel → StaysFitting → AsideFollows
       → WhereTold (λ places. now ≡ newest_time (entries places)) t → HastensOn s t w → Opens s t w w g → Keeps p s w met f → Keeps q t w met g

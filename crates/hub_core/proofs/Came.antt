@@ -12,7 +12,6 @@ use Rattle.line_model.specs.Signs.{Every}
 use Rattle.line_model.specs.Told.{IsLoss}
 use Rattle.line_model.specs.Asks.{moment_of}
 use Rattle.line_model.specs.Attempts.{Attempts}
-use Rattle.tunnel_link.specs.declared.acted.Acted.{Acted}
 use Rattle.tunnel_link.specs.declared.came.Came.{Came}
 use Rattle.tunnel_link.specs.declared.came.Loss.{Loss}
 use Rattle.tunnel_link.specs.declared.came.Loss.TheVariants.{Stays, Ended, Told}
@@ -197,7 +196,7 @@ comes_after x y run log new a c d first then sends same poll jobs of old e =
 pub none_added : (s t : Story) → t ≡ s → Growing AllNothing s t
 none_added s t same old e = unmoved AllNothing s t old same e tt
 
-pub acts_nothing : (s t : Story) (acted : Acted) → Growing (Acts (Ok acted)) s t → Growing AllNothing s t
+pub acts_nothing : (s t : Story) (acted : Bool) → Growing (Acts (Ok acted)) s t → Growing AllNothing s t
 acts_nothing s t acted g = grows_as (Acts (Ok acted)) AllNothing s t (λ old added h. h.0) g
 
 pub seeks_nothing : (s t : Story) (result : Result Bool HubFault) → Growing (Seeks result) s t → OnOk result (Growing AllNothing s t)

@@ -7,10 +7,7 @@ use Rattle.line_model.specs.LinkStory.{Story, places_in, newest_time}
 use Rattle.line_model.specs.ClientView.{ClientChannel, channel}
 use Rattle.line_model.specs.Closing as line
 use Rattle.line_model.specs.Pumped.{Adds}
-use Rattle.tunnel_link.specs.declared.acted.Acted.{Acted}
 use Rattle.tunnel_link.specs.declared.came.Came.{Came}
-use Rattle.tunnel_link.specs.declared.came.Loss.{Loss}
-use Rattle.tunnel_link.specs.declared.came.Loss.TheVariants.{Stays}
 use Rattle.tunnel_link.specs.Adds.{place_of, Grows, Growing, Acts, Leaves, Brings, PollAdds, asks_end}
 use Rattle.tunnel_link.specs.Goes as tunnel
 use Rattle.tunnel_link.specs.Rights.{WhereTold}
@@ -43,10 +40,8 @@ pub polls_resume : (s t : Story) (c : Came) (now : ℕ) (old new : Option Closin
 polls_resume s t c now old new keeps told grows closes =
     resumes_by s t now (PollAdds (Ok c)) (Resumes old new) keeps told grows (λ was added b m is. closes_by (got_one c.what) c.loss now old new (entries was) (entries added) closes (brings_after c now was added b m is))
 
-pub acts_resume : (s t : Story) (acted : Acted) (now : ℕ) (old new : Option Closing) → tunnel.Keeps t → WhereTold (λ places. now ≡ newest_time (entries places)) t → Growing (Acts (Ok acted)) s t → ClosesBy false acted.loss now old new → AddsSo (Resumes old new) s t
-acts_resume s t acted now old new keeps told grows closes =
-    resumes_by s t now (Acts (Ok acted)) (Resumes old new) keeps told grows (λ was added h m is.
-    closes_by false Stays now old new (entries was) (entries added) (subst (λ (x : Loss). ClosesBy false x now old new) h.1.loss closes) (λ z. resumed_sent z added h.1.only_sends h.1.asks_no_end))
+pub acts_resume : (s t : Story) (acted : Bool) (closing : Option Closing) → Growing (Acts (Ok acted)) s t → AddsSo (Resumes closing closing) s t
+acts_resume s t acted closing grows = adds_by s t (Acts (Ok acted)) (Resumes closing closing) grows (λ was added h z come. subst (HasCome closing) (sym (resumed_sent z added h.1.only_sends h.1.asks_no_end)) come)
 
 -- ---- the end of the channel is asked for, or there is none
 

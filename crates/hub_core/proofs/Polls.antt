@@ -13,9 +13,7 @@ use Rattle.line_model.specs.Moments.{moments, time}
 use Rattle.line_model.specs.Log.{Job}
 use Rattle.line_model.specs.Closing as line
 use Rattle.line_model.specs.Waiting.{HasWork, PollsSo, LastsUntil, channel_deadlines, longest_poll}
-use Rattle.tunnel_link.specs.declared.acted.Acted.{Acted}
 use Rattle.tunnel_link.specs.declared.known.Known.{Known}
-use Rattle.tunnel_link.specs.declared.came.Loss.TheVariants.{Stays}
 use Rattle.tunnel_link.specs.Adds.{place_of, Growing, Acts, Seeks, Leaves, HasActed, Ready}
 use Rattle.tunnel_link.specs.Goes.{GoesOn}
 use Rattle.tunnel_link.specs.Lasts.{LastsRightly, PollsFor}
@@ -48,12 +46,8 @@ grows_as P Q s t to g old e = let x = g old e in record { new = x.new; told = x.
 pub none_sent : (s t : Story) → t ≡ s → Growing SendsOnly s t
 none_sent s t same old e = unmoved SendsOnly s t old same e refl
 
-pub acts_send : (s t : Story) (acted : Acted) → Growing (Acts (Ok acted)) s t → Growing SendsOnly s t
+pub acts_send : (s t : Story) (acted : Bool) → Growing (Acts (Ok acted)) s t → Growing SendsOnly s t
 acts_send s t acted g = grows_as (Acts (Ok acted)) SendsOnly s t (λ old added h. h.1.only_sends) g
-
--- where places are told nothing has lapsed
-pub acts_stay : (s t : Story) (acted : Acted) → Growing (Acts (Ok acted)) s t → WhereTold (λ places. acted.loss ≡ Stays) s
-acts_stay s t acted g old e = let x = g old e in x.is.1.loss
 
 pub seeks_send : (s t : Story) (result : Result Bool HubFault) → Growing (Seeks result) s t → OnOk result (Growing SendsOnly s t)
 seeks_send s t (Ok true) g = grows_as (Seeks (Ok true)) SendsOnly s t (λ old added h. h.so.0) g

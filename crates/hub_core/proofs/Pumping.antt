@@ -8,7 +8,6 @@ use Rattle.line_model.specs.LinkStory.{Story, places_in}
 use Rattle.line_model.specs.ClientView.{indications}
 use Rattle.line_model.specs.Dropped.{is_dropped}
 use Rattle.line_model.specs.Pumped.{Adds, sends_nothing, drops_all}
-use Rattle.tunnel_link.specs.declared.acted.Acted.{Acted}
 use Rattle.tunnel_link.specs.declared.came.Came.{Came}
 use Rattle.tunnel_link.specs.declared.came.What.{What}
 use Rattle.tunnel_link.specs.declared.came.What.TheVariants as came
@@ -57,8 +56,8 @@ quiet_polls (p ∷ added) h = rw h.0 (quiet_polls added h.1)
 
 -- ---- what is due, and a new endpoint
 
-pub acts_so : (s t : Story) (acted : Acted) → Growing (Acts (Ok acted)) s t → AddsSo (Does is_late_now acted.sent) s t
-acts_so s t acted grows = adds_by s t (Acts (Ok acted)) (Does is_late_now acted.sent) grows (λ old added h. record {
+pub acts_so : (s t : Story) (acted : Bool) → Growing (Acts (Ok acted)) s t → AddsSo (Does is_late_now acted) s t
+acts_so s t acted grows = adds_by s t (Acts (Ok acted)) (Does is_late_now acted) grows (λ old added h. record {
   sends = λ e. polled_none added h.1.only_sends (h.1.sent e);
   nothing = λ e. ap entries (h.1.unsent e).0;
   got_nothing = got_none (entries old) added (sent_not_got added h.1.only_sends);

@@ -14,7 +14,7 @@ ghost use Rattle.hub_core.specs.Seen.{StaysEnded};
 ghost use Rattle.hub_core.specs.Since.{Since};
 
 use super::Hub;
-use super::taking::{Polled, ending, lose, take_in};
+use super::taking::{Polled, ending, take_in};
 use crate::answers::Pumped;
 use hub_work::moments_go_on;
 use line_model::{HubFault, Link};
@@ -65,10 +65,9 @@ impl<L: Link> Hub<L> {
     {
         moments_go_on();
         let acted = self.tunnel.act()?;
-        let now = self.tunnel.now();
-        lose(&mut self.work, false, acted.loss, now);
+        let _now = self.tunnel.now();
         self.tunnel.keeps();
-        Ok(acted.sent)
+        Ok(acted)
     }
 
     /// Asks for a channel. Tells whether it did.

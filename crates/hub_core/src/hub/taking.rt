@@ -1,6 +1,6 @@
 //! What a poll brought, taken in.
 
-ghost use Rattle.std.specs.Prelude.{◌≡◌, ◌||◌, false};
+ghost use Rattle.std.specs.Prelude.{◌≡◌, ◌||◌};
 ghost use Rattle.hub_work.specs.Works.{SameBooks};
 ghost use Rattle.hub_core.specs.Came.{CountsIn, CountsLoss, CountsTaken};
 ghost use Rattle.hub_core.specs.Closes.{ClosesBy};
@@ -54,13 +54,11 @@ fn deliver(work: &mut Work, what: &What, now: u64) -> Option<Indication>
 }
 
 /// Tells the work of the loss of its channel, at this time, where it was lost, and how far the closing is then, where it has begun.
-pub fn lose(work: &mut Work, got: bool, loss: Loss, now: u64)
+fn lose(work: &mut Work, got: bool, loss: Loss, now: u64)
     ensures books { SameWork work.old work.new }
     ensures fits { LosesIn loss now work.old work.new }
     ensures closes { ClosesBy got loss now work.old.closing work.new.closing }
     ensures came { CountsLoss loss now work.old work.new.crew }
-    ensures crew { loss ≡ Loss.Stays → work.new.crew ≡ work.old.crew }
-    ensures closing { loss ≡ Loss.Stays → got ≡ false → work.new.closing ≡ work.old.closing }
 {
     give_up(work, loss, now);
     closes(work, got, loss, now);
@@ -71,7 +69,6 @@ fn give_up(work: &mut Work, loss: Loss, now: u64)
     ensures books { SameBooks work.old work.new }
     ensures fits { LosesIn loss now work.old work.new }
     ensures came { CountsLoss loss now work.old work.new.crew }
-    ensures crew { loss ≡ Loss.Stays → work.new.crew ≡ work.old.crew }
 {
     moments_go_on();
     match loss {
@@ -83,7 +80,6 @@ fn give_up(work: &mut Work, loss: Loss, now: u64)
 /// Tells the work for its closing that a datagram was got or wasn't, and what became of the channel.
 fn closes(work: &mut Work, got: bool, loss: Loss, now: u64)
     ensures closes { ClosesBy got loss now work.old.closing work.new.closing }
-    ensures stays { loss ≡ Loss.Stays → got ≡ false → work.new.closing ≡ work.old.closing }
     ensures rest { work.new ≡ record work.old { closing = work.new.closing } }
 {
     match loss {

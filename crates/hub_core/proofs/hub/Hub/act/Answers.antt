@@ -1,13 +1,12 @@
-use Rattle.std.proofs.Common.{◌≡◌, false, None, refl}
+use Rattle.std.proofs.Common.{◌≡◌, None, refl}
 use Rattle.hub_core.proofs.Calls.{acts_failed, acts_done}
 use Rattle.hub_core.proofs.Keeps.{none_inside}
-use Rattle.hub_core.proofs.Hastening.{asked_after, hastens_alone, opens_by}
+use Rattle.hub_core.proofs.Hastening.{hastens_alone, opens_by}
 use Rattle.hub_core.proofs.Leaving.{ends_none_of}
-use Rattle.hub_core.proofs.View.{same_run}
 use Rattle.hub_core.proofs.Hears.{hears_none, acts_few, failed_few}
 use Rattle.hub_core.proofs.Pumping.{acts_so}
 use Rattle.hub_core.proofs.Endings.{acts_resume}
-use Rattle.hub_core.proofs.Polls.{acts_send, acts_stay}
+use Rattle.hub_core.proofs.Polls.{acts_send}
 use Rattle.hub_core.proofs.Came.{acts_nothing}
 use Rattle.hub_core.proofs.InTime.{awaits_on}
 use Rattle.hub_core.proofs.Since.{call_since}
@@ -21,8 +20,8 @@ invariant_of-self g c =
 pub invariant_of-self-2 : goal.invariant_of-self-2
 invariant_of-self-2 g c =
     let none : c.self.inside.tunnel.known.fault ≡ None = none_inside _ _ c.self.view_is c.requires.stands in
-    acts_done _ _ _ _ _ _ _ none c.act.ensures.events c.act.ensures.grows _ _ _ _ c.in_ok-acted.ensures.adds c.in_ok-acted.ensures.stands c.lose.ensures.books c.moments_go_on.ensures.later c.lose.ensures.fits c.now-now.ensures.newest (hastens_alone _ _ c.self.inside.work c.act.ensures.timeless c.act.ensures.alone)
-    (opens_by _ _ c.self.inside.work c.lose.new.work _ c.act.ensures.grows (ends_none_of _ _ c.act.ensures.alone) (asked_after false c.in_ok-acted.acted.loss c.now-now.result c.self.inside.work.closing c.lose.new.work.closing c.lose.ensures.closes)) c.self.invariant
+    acts_done _ _ _ _ _ _ _ none c.act.ensures.events c.act.ensures.grows _ _ _ c.in_ok-acted.ensures.adds c.in_ok-acted.ensures.stands c.moments_go_on.ensures.later c.moments_go_on.ensures.aside c.now-now.ensures.newest (hastens_alone _ _ c.self.inside.work c.act.ensures.timeless c.act.ensures.alone)
+    (opens_by _ _ c.self.inside.work c.self.inside.work _ c.act.ensures.grows (ends_none_of _ _ c.act.ensures.alone) (λ isnt. isnt)) c.self.invariant
 
 pub returns-in_err-acted-clause-since : goal.returns-in_err-acted-clause-since
 returns-in_err-acted-clause-since g c =
@@ -32,7 +31,7 @@ returns-in_err-acted-clause-since g c =
 pub returns-clause-since : goal.returns-clause-since
 returns-clause-since g c =
     let none : c.self.inside.tunnel.known.fault ≡ None = none_inside _ _ c.self.view_is c.requires.stands in
-    rw (← c.self.view_is) (call_since c.act.result none c.act.ensures.grows c.act.ensures.script (same_run _ _ _ _ c.self.inside.work c.lose.new.work _ _ _ c.lose.ensures.books) c.act.ensures.count (c.act.ensures.cause none) c.act.ensures.stands c.act.ensures.fault)
+    rw (← c.self.view_is) (call_since c.act.result none c.act.ensures.grows c.act.ensures.script (record { tasks = refl; devices = refl; turns = refl; workers = refl; missed = refl }) c.act.ensures.count (c.act.ensures.cause none) c.act.ensures.stands c.act.ensures.fault)
 
 pub returns-clause-heard : goal.returns-clause-heard
 returns-clause-heard g c = rw (← c.self.view_is) (hears_none _ _ _ c.in_ok-acted.ensures.adds (λ old added h. h.0))
@@ -40,11 +39,8 @@ returns-clause-heard g c = rw (← c.self.view_is) (hears_none _ _ _ c.in_ok-act
 pub returns-clause-does : goal.returns-clause-does
 returns-clause-does g c = rw (← c.self.view_is) (acts_so _ _ c.in_ok-acted.acted c.in_ok-acted.ensures.adds)
 
-pub returns-clause-begun : goal.returns-clause-begun
-returns-clause-begun g c = rw (← c.self.view_is) c.lose.ensures.books.begun
-
 pub returns-clause-resumes : goal.returns-clause-resumes
-returns-clause-resumes g c = rw (← c.self.view_is) (acts_resume _ _ c.in_ok-acted.acted c.now-now.result _ _ c.keeps.ensures.legal c.now-now.ensures.newest c.in_ok-acted.ensures.adds c.lose.ensures.closes)
+returns-clause-resumes g c = rw (← c.self.view_is) (acts_resume _ _ c.in_ok-acted.acted _ c.in_ok-acted.ensures.adds)
 
 pub returns-in_err-acted-clause-alone : goal.returns-in_err-acted-clause-alone
 returns-in_err-acted-clause-alone g c = rw (← c.self.view_is) c.act.ensures.alone
@@ -56,17 +52,14 @@ pub returns-clause-sends : goal.returns-clause-sends
 returns-clause-sends g c = rw (← c.self.view_is) (acts_send _ _ c.in_ok-acted.acted c.in_ok-acted.ensures.adds)
 
 pub returns-clause-still : goal.returns-clause-still
-returns-clause-still g c =
-    rw (← c.self.view_is) (λ old e.
-    let stays = acts_stay _ _ c.in_ok-acted.acted c.in_ok-acted.ensures.adds old e in
-    (c.lose.ensures.crew stays, c.lose.ensures.closing stays refl))
+returns-clause-still g c = rw (← c.self.view_is) (λ old e. (refl, refl))
 
 pub returns-clause-nothing : goal.returns-clause-nothing
 returns-clause-nothing g c = rw (← c.self.view_is) (acts_nothing _ _ c.in_ok-acted.acted c.in_ok-acted.ensures.adds)
 
 pub returns-clause-awaits : goal.returns-clause-awaits
 returns-clause-awaits g c =
-    rw (← c.self.view_is) (awaits_on _ _ _ _ c.act.ensures.grows c.keeps.ensures.legal (acts_send _ _ c.in_ok-acted.acted c.in_ok-acted.ensures.adds) (λ old e. c.lose.ensures.closing (acts_stay _ _ c.in_ok-acted.acted c.in_ok-acted.ensures.adds old e) refl))
+    rw (← c.self.view_is) (awaits_on _ _ _ _ c.act.ensures.grows c.keeps.ensures.legal (acts_send _ _ c.in_ok-acted.acted c.in_ok-acted.ensures.adds) (λ old e. refl))
 
 pub returns-in_err-acted-clause-few : goal.returns-in_err-acted-clause-few
 returns-in_err-acted-clause-few g c = rw (← c.self.view_is) (failed_few _ _ _ (acts_few _ _ c.in_err-acted.ensures.adds))

@@ -35,9 +35,3 @@ returns-clause-books c =
 
 pub returns-clause-came : goal.returns-clause-came
 returns-clause-came c = subst (λ (crew : List (Option Held)). CountsLoss c.args.loss c.args.now c.args.work.now crew) (sym (ap (λ (w : Work). w.crew) c.closes.ensures.rest)) c.give_up.ensures.came
-
-pub returns-clause-crew : goal.returns-clause-crew
-returns-clause-crew c = λ stays. ap (λ (w : Work). w.crew) c.closes.ensures.rest ∙ c.give_up.ensures.crew stays
-
-pub returns-clause-closing : goal.returns-clause-closing
-returns-clause-closing c = λ stays unheard. c.closes.ensures.stays stays unheard ∙ c.give_up.ensures.books.closing
