@@ -1,10 +1,9 @@
 -- How far the job is that a worker holds is told truly: by the log and by the record.
 use Rattle.std.proofs.Common.{◌≡◌, ◌≢◌, Bool, false, ℕ, ◌-◌, ◌≤◌, List, [], ◌∷◌, map, Option, Some, None, refl, sym, ap, subst, ◌∙◌, arith}
-use Rattle.std.specs.Prelude.{option_map, slice_get}
+use Rattle.std.specs.Prelude.{option_map}
 use Rattle.std.proofs.lemmas.Option.{slice_get-map}
 use Rattle.knx_model.specs.declared.address.IndAddr.{IndAddr}
 use Rattle.line_model.specs.declared.fault.HubFault.{HubFault}
-use Rattle.line_model.specs.declared.log.LogEntry.{LogEntry}
 use Rattle.line_model.specs.declared.outside.watcher.JobProgress.{JobProgress}
 use Rattle.line_model.specs.LinkStory.{Story, Untold, Recorded, Full, IsPlace, places_in}
 use Rattle.line_model.specs.Log.{Job, JobState, Held, job_of, numbered_from_one, state_of}
@@ -26,7 +25,7 @@ use Rattle.hub_work.specs.declared.crew.Held.{Held as Holds}
 use Rattle.hub_work.specs.declared.job.HubJob.{HubJob}
 use Rattle.hub_work.specs.declared.work.Work.{Work}
 use Rattle.hub_work.specs.Books.{AreJobsOf, held_at}
-use Rattle.hub_work.specs.Downloaders.{AreJobsWith, Task, downloader_of, states, task_of_state}
+use Rattle.hub_work.specs.Downloaders.{AreJobsWith, Task, states, task_of_state}
 use Rattle.hub_work.specs.Fits.{Fits, FitsJob}
 use Rattle.hub_work.specs.Going.{HasGone}
 use Rattle.hub_work.specs.Works.{KeepsBooks, tasks}
