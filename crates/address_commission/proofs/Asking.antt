@@ -11,7 +11,6 @@ use Rattle.line_model.specs.Reading.{ldata_in}
 use Rattle.line_model.specs.Record.{Entry, Placed, counted, entries, placed}
 use Rattle.line_model.specs.Sendings.{SendsRightly}
 use Rattle.line_model.specs.Signs.{Every}
-use Rattle.tunnel_link.specs.declared.acted.Acted.{Acted}
 use Rattle.tunnel_link.specs.declared.came.Came.{Came}
 use Rattle.tunnel_link.specs.declared.known.Known.{Known}
 use Rattle.tunnel_link.specs.Adds.{Acts, Growing, Leaves, PollAdds, PutsOne, Seeks, moments_on}
@@ -61,7 +60,7 @@ seek_none result old added h = nothing_puts (moments_on old added) h.nothing
 leave_none : (result : Result Bool HubFault) (old added : List Placed) → Leaves result old added → Every PutsNo (moments_on old added)
 leave_none result old added h = nothing_puts (moments_on old added) h.nothing
 
-act_none : (result : Result Acted HubFault) (old added : List Placed) → Acts result old added → Every PutsNo (moments_on old added)
+act_none : (result : Result Bool HubFault) (old added : List Placed) → Acts result old added → Every PutsNo (moments_on old added)
 act_none (Ok acted) old added h = nothing_puts (moments_on old added) h.0
 act_none (Err fault) old added h = nothing_puts (moments_on old added) h
 
@@ -71,7 +70,7 @@ seek_asks result s t g h = no_other (Seeks result) (seek_none result) s t g h
 pub leave_asks : (result : Result Bool HubFault) (s t : Story) → GoesOn s t → Growing (Leaves result) s t → AsksNoOther s t
 leave_asks result s t g h = no_other (Leaves result) (leave_none result) s t g h
 
-pub act_asks : (result : Result Acted HubFault) (s t : Story) → GoesOn s t → Growing (Acts result) s t → AsksNoOther s t
+pub act_asks : (result : Result Bool HubFault) (s t : Story) → GoesOn s t → Growing (Acts result) s t → AsksNoOther s t
 act_asks result s t g h = no_other (Acts result) (act_none result) s t g h
 
 pub poll_asks : (result : Result Came HubFault) (s t : Story) → GoesOn s t → Growing (PollAdds result) s t → AsksNoOther s t

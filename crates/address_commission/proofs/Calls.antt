@@ -10,7 +10,6 @@ use Rattle.line_model.specs.Record.{Placed, entries, is_poll}
 use Rattle.line_model.specs.LinkStory.{Story, Clock, clock_of, newest_time}
 use Rattle.line_model.specs.Faults.{datagrams_taken, flood}
 use Rattle.line_model.specs.Moments.{moments}
-use Rattle.tunnel_link.specs.declared.acted.Acted.{Acted}
 use Rattle.tunnel_link.specs.declared.came.Came.{Came}
 use Rattle.tunnel_link.specs.declared.came.Loss.TheVariants.{Stays}
 use Rattle.tunnel_link.specs.Adds.{Growing, Acts, Seeks, PollAdds, moments_on}
@@ -75,7 +74,7 @@ told_ok (Err fault) x h = absurd (cc)
 
 -- ---- what is due
 
-pub act_talks : (result : Result Acted HubFault) (e : Ear) (s t : Story) → GoesOn s t → Growing (Acts result) s t → (wanted : IndAddr) → WhereExact (Listens wanted e) s → WhereExact (TalksRightly wanted) t
+pub act_talks : (result : Result Bool HubFault) (e : Ear) (s t : Story) → GoesOn s t → Growing (Acts result) s t → (wanted : IndAddr) → WhereExact (Listens wanted e) s → WhereExact (TalksRightly wanted) t
 act_talks (Ok acted) e s t g h wanted l new p =
     let x = step_of (Acts (Ok acted)) s t new g h p in
     nothing_talks wanted e x.old x.added new x.grow x.moments_grow x.is.0 (l x.old x.told).stands.rightly
@@ -83,10 +82,8 @@ act_talks (Err fault) e s t g h wanted l new p =
     let x = step_of (Acts (Err fault)) s t new g h p in
     nothing_talks wanted e x.old x.added new x.grow x.moments_grow x.is (l x.old x.told).stands.rightly
 
--- by what became of the channel
-pub act_goes : (result : Result (Unit {0}) AssignFault) (acted : Acted) (e : Ear) (s t : Story) → GoesOn s t → Growing (Acts (Ok acted)) s t → Growing (Each TakesNoTime) s t → Growing (Each EndsNone) s t → OnOk result (acted.loss ≡ Stays) → IfErr result (λ fault. (fault ≡ TunnelLost) × (acted.loss ≡ Stays → ⊥))
-    → TalkGoes SameRounds e e s t result
-act_goes (Ok done) acted e s t g h time none stays lost = record {
+pub act_goes : {X : Type 0} (done : X) (acted : Bool) (e : Ear) (s t : Story) → GoesOn s t → Growing (Acts (Ok acted)) s t → Growing (Each TakesNoTime) s t → Growing (Each EndsNone) s t → TalkGoes SameRounds e e s t (Ok done)
+act_goes done acted e s t g h time none = record {
   listens = λ wanted l new p.
       let x = step_of (Acts (Ok acted)) s t new g h p in
       nothing_listens wanted e x.old x.added new x.grow x.moments_grow x.is.0 x.is.1.only_sends (paced_on e s t g time none wanted l new p) (l x.old x.told);
@@ -95,8 +92,6 @@ act_goes (Ok done) acted e s t g h time none stays lost = record {
       record { old = x.old; told = x.told; is = nothing_same wanted e x.old x.added new x.grow x.moments_grow x.is.0 };
   fails = λ wanted l. tt;
 }
-act_goes (Err why) acted e s t g h time none stays lost =
-    failed SameRounds e e s t why (λ wanted l new p. let x = step_of (Acts (Ok acted)) s t new g h p in absurd (lost.1 x.is.1.loss))
 
 -- ---- what is awaited
 

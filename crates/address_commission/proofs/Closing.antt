@@ -17,7 +17,6 @@ use Rattle.line_model.specs.LinkStory.{Story, newest_time}
 use Rattle.line_model.specs.ClientView.{ClientChannel, Fresh, Sought, RefusedBy, Unanswered, Open, Lost, Deed, Puts, Takes, Loses, Nothing as DoesNothing, channel}
 use Rattle.line_model.specs.Moments.{Moment, moments}
 use Rattle.line_model.specs.Signs.{Every}
-use Rattle.tunnel_link.specs.declared.acted.Acted.{Acted}
 use Rattle.tunnel_link.specs.declared.came.Came.{Came}
 use Rattle.tunnel_link.specs.declared.came.Loss.{Loss}
 use Rattle.tunnel_link.specs.declared.came.Loss.TheVariants.{Stays, Ended, Told}
@@ -94,7 +93,7 @@ few_close P few wanted s t g h new p =
 leave_few : (result : Result Bool HubFault) (old added : List Placed) → Leaves result old added → AtMostOne (moments_on old added)
 leave_few result old added h = inl h.nothing
 
-act_few : (result : Result Acted HubFault) (old added : List Placed) → Acts result old added → AtMostOne (moments_on old added)
+act_few : (result : Result Bool HubFault) (old added : List Placed) → Acts result old added → AtMostOne (moments_on old added)
 act_few (Ok acted) old added h = inl h.0
 act_few (Err fault) old added h = inl h
 
@@ -105,7 +104,7 @@ poll_few (Err fault) old added h = h.at_most_one
 pub leave_closes : (result : Result Bool HubFault) (wanted : IndAddr) (s t : Story) → GoesOn s t → Growing (Leaves result) s t → Going (ClosesSo wanted) s t
 leave_closes result wanted s t g h = few_close (Leaves result) (leave_few result) wanted s t g h
 
-pub act_closes : (result : Result Acted HubFault) (wanted : IndAddr) (s t : Story) → GoesOn s t → Growing (Acts result) s t → Going (ClosesSo wanted) s t
+pub act_closes : (result : Result Bool HubFault) (wanted : IndAddr) (s t : Story) → GoesOn s t → Growing (Acts result) s t → Going (ClosesSo wanted) s t
 act_closes result wanted s t g h = few_close (Acts result) (act_few result) wanted s t g h
 
 pub poll_closes : (result : Result Came HubFault) (wanted : IndAddr) (s t : Story) → GoesOn s t → Growing (PollAdds result) s t → Going (ClosesSo wanted) s t

@@ -13,7 +13,6 @@ use Rattle.line_model.specs.LinkStory.{Story, clock_of, newest_time}
 use Rattle.line_model.specs.Moments.{Moment, moments, is_loss}
 use Rattle.line_model.specs.Record.{Item, Put, Renewed, Got, Quiet, Entry, Placed, entries, is_got, is_poll, is_renewal}
 use Rattle.line_model.specs.Waiting.{longest_poll}
-use Rattle.tunnel_link.specs.declared.acted.Acted.{Acted}
 use Rattle.tunnel_link.specs.declared.came.Came.{Came}
 use Rattle.tunnel_link.specs.declared.came.Loss.{Loss}
 use Rattle.tunnel_link.specs.declared.came.Loss.TheVariants.{Stays, Ended, Told}
@@ -113,7 +112,7 @@ timeless_time : (added old : List Placed) → Each TakesNoTime old added → new
 timeless_time [] old t = refl
 timeless_time (p ∷ added) old t = t.0.still ∙ timeless_time added old t.1
 
-pub acts_left : (acted : Acted) (left : ℕ) (talk : List Placed) (s t : Story) → GoesOn s t → Growing (Acts (Ok acted)) s t → Growing (Each TakesNoTime) s t → WhereExact (LeavesSince left talk) s → WhereExact (LeavesSince left talk) t
+pub acts_left : (acted : Bool) (left : ℕ) (talk : List Placed) (s t : Story) → GoesOn s t → Growing (Acts (Ok acted)) s t → Growing (Each TakesNoTime) s t → WhereExact (LeavesSince left talk) s → WhereExact (LeavesSince left talk) t
 acts_left acted left talk s t g h time l new p =
     let x = step_of (Acts (Ok acted)) s t new g h p in
     let was = l x.old x.told in
@@ -130,7 +129,7 @@ acts_left acted left talk s t g h time l new p =
       count = omega (arith, c, b, n);
     }
 
-pub acts_time : (acted : Acted) (now : ℕ) (s t : Story) → GoesOn s t → Growing (Acts (Ok acted)) s t → Growing (Each TakesNoTime) s t → WhereExact (λ places. now ≡ newest_time (entries places)) s → WhereExact (λ places. now ≡ newest_time (entries places)) t
+pub acts_time : (acted : Bool) (now : ℕ) (s t : Story) → GoesOn s t → Growing (Acts (Ok acted)) s t → Growing (Each TakesNoTime) s t → WhereExact (λ places. now ≡ newest_time (entries places)) s → WhereExact (λ places. now ≡ newest_time (entries places)) t
 acts_time acted now s t g h time l new p =
     let x = step_of (Each TakesNoTime) s t new g time p in
     l x.old x.told ∙ sym (ap (λ z. newest_time (entries z)) x.grow ∙ timeless_time x.added x.old x.is)
@@ -300,7 +299,7 @@ told_causes (Err why) t h = h
 
 -- ---- a poll, by what was told of it
 
-pub told_left : (call : Result Came HubFault) (result : Result Came AssignFault) → ToldAs call result → (acted : Acted) (longest : ℕ) (s t u : Story) → GoesOn s t → Growing (Acts (Ok acted)) s t → Growing (Each TakesNoTime) s t → GoesOn t u → Growing (PollAdds call) t u → Growing (PollsWithin (clock_of t) longest) t u
+pub told_left : (call : Result Came HubFault) (result : Result Came AssignFault) → ToldAs call result → (acted : Bool) (longest : ℕ) (s t u : Story) → GoesOn s t → Growing (Acts (Ok acted)) s t → Growing (Each TakesNoTime) s t → GoesOn t u → Growing (PollAdds call) t u → Growing (PollsWithin (clock_of t) longest) t u
     → IfOk result (λ polled. (left : ℕ) (talk : List Placed) (now : ℕ) → WhereExact (λ places. now ≡ newest_time (entries places)) s → now + longest ≤ newest_time (entries talk) + answer_wait → 1 ≤ left → WhereExact (LeavesSince left talk) s → WhereExact (LeftOn polled left talk) u)
 told_left (Ok polled) (Err why) told acted longest s t u g h time k adds within = tt
 told_left (Err fault) (Err why) told acted longest s t u g h time k adds within = tt

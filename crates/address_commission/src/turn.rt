@@ -35,8 +35,8 @@ pub fn act<L: Link>(tunnel: &mut Tunnel<L>) -> Result<(), AssignFault>
     ensures script { L.script tunnel.new.link ≡ L.script tunnel.old.link }
 {
     let acted = tunnel.act();
-    let acted = told(tunnel, acted)?;
-    kept(acted.loss)
+    let _ = told(tunnel, acted)?;
+    Ok(())
 }
 
 /// Whether the channel stays.

@@ -7,25 +7,25 @@ use Rattle.address_commission.proofs.Calls.{handed_on, told_ok, told_failed, pac
 use Rattle.address_commission.proofs.Closing.{act_closes, ends_none_of, goes_same_rounds}
 use Rattle.address_commission.proofs.turn.act.Goals as goal
 
-pub returns-in_err-acted-clause-goes : goal.returns-in_err-acted-clause-goes
-returns-in_err-acted-clause-goes g c e =
+pub returns-in_err-told-clause-goes : goal.returns-in_err-told-clause-goes
+returns-in_err-told-clause-goes g c e =
     subst (λ r. TalkGoes SameRounds e e (g.L.Link.story c.args.tunnel.now.link) (g.L.Link.story c.act-acted.new.self.link) r) (sym (handed_on c.from_residual.result _ c.from_residual.ensures))
-    (told_failed SameRounds e e _ _ _ c.in_err-acted.ensures.cause (act_talks c.act-acted.result e _ _ c.act-acted.ensures.grows c.act-acted.ensures.adds)
+    (told_failed SameRounds e e _ _ _ c.in_err-told.ensures.cause (act_talks c.act-acted.result e _ _ c.act-acted.ensures.grows c.act-acted.ensures.adds)
     (paced_so_far e _ _ c.act-acted.ensures.grows c.act-acted.ensures.timeless (ends_none_of _ _ c.act-acted.ensures.alone)))
 
 pub returns-clause-goes : goal.returns-clause-goes
 returns-clause-goes g c e =
-    act_goes c.kept.result c.in_ok-acted.acted e _ _ c.act-acted.ensures.grows
-    (subst (λ r. Growing (Acts r) (g.L.Link.story c.args.tunnel.now.link) (g.L.Link.story c.act-acted.new.self.link)) (told_ok c.act-acted.result c.in_ok-acted.acted c.in_ok-acted.ensures.same) c.act-acted.ensures.adds) c.act-acted.ensures.timeless (ends_none_of _ _ c.act-acted.ensures.alone) c.kept.ensures.stays c.kept.ensures.lost
+    act_goes _ c.in_ok-told.field-0 e _ _ c.act-acted.ensures.grows
+    (subst (λ r. Growing (Acts r) (g.L.Link.story c.args.tunnel.now.link) (g.L.Link.story c.act-acted.new.self.link)) (told_ok c.act-acted.result c.in_ok-told.field-0 c.in_ok-told.ensures.same) c.act-acted.ensures.adds) c.act-acted.ensures.timeless (ends_none_of _ _ c.act-acted.ensures.alone)
 
 pub returns-clause-same : goal.returns-clause-same
 returns-clause-same g c = goes_same_rounds _ _ (λ wanted. act_closes c.act-acted.result wanted _ _ c.act-acted.ensures.grows c.act-acted.ensures.adds)
 
-pub returns-in_err-acted-clause-same : goal.returns-in_err-acted-clause-same
-returns-in_err-acted-clause-same g c = goes_same_rounds _ _ (λ wanted. act_closes c.act-acted.result wanted _ _ c.act-acted.ensures.grows c.act-acted.ensures.adds)
+pub returns-in_err-told-clause-same : goal.returns-in_err-told-clause-same
+returns-in_err-told-clause-same g c = goes_same_rounds _ _ (λ wanted. act_closes c.act-acted.result wanted _ _ c.act-acted.ensures.grows c.act-acted.ensures.adds)
 
 pub returns-clause-puts : goal.returns-clause-puts
 returns-clause-puts g c = act_asks c.act-acted.result _ _ c.act-acted.ensures.grows c.act-acted.ensures.adds
 
-pub returns-in_err-acted-clause-puts : goal.returns-in_err-acted-clause-puts
-returns-in_err-acted-clause-puts g c = act_asks c.act-acted.result _ _ c.act-acted.ensures.grows c.act-acted.ensures.adds
+pub returns-in_err-told-clause-puts : goal.returns-in_err-told-clause-puts
+returns-in_err-told-clause-puts g c = act_asks c.act-acted.result _ _ c.act-acted.ensures.grows c.act-acted.ensures.adds
