@@ -5,7 +5,7 @@ ghost use Rattle.call_words.specs.declared.stop.Stop.TheVariants.{Usage, NoMemor
 ghost use Rattle.knx_model.specs.Outside.{one_more};
 ghost use Rattle.call_words.specs.Statuses.{status_number};
 ghost use Rattle.call_parts.specs.declared.ending.End.TheVariants.{Stops};
-ghost use Rattle.knx_top.specs.Call.{AtMostOneRose, RunsRightly, files_of, touches, touches_units};
+ghost use Rattle.knx_top.specs.Call.{AtMostOneRose, files_of, touches, touches_units};
 ghost use Rattle.knx_top.specs.Command.{asked, Assign as AskedAssign, AssignSim as AskedAssignSim, Big as AskedBig, Check as AskedCheck, Decode as AskedDecode, Download as AskedDownload, Find as AskedFind, Gateway as AskedGateway, Migrate as AskedMigrate, Sim as AskedSim, Tables as AskedTables};
 ghost use Rattle.call_parts.specs.Ending.{Replies};
 ghost use Rattle.knx_top.specs.Ran.{FaultsOfLine};
@@ -78,7 +78,6 @@ pub fn status_of<
     ensures assign { IfOk words.now (λ words. (names : AssignWords) → asked (map string_bytes words.items) ≡ Some (AskedAssign names) → RunsAssign names (D.now dial.old) (D.now dial.new) (Replies (K.now out.old) (K.now out.new) (status_of result))) }
     ensures assign_sim { IfOk words.now (λ words. (names : AssignSimWords) → asked (map string_bytes words.items) ≡ Some (AskedAssignSim names) → RunsAssignSim names (F.now files.old) (F.now files.new) units.old units.new (Replies (K.now out.old) (K.now out.new) (status_of result))) }
     ensures big { IfOk words.now (λ words. (names : BigWords) → asked (map string_bytes words.items) ≡ Some (AskedBig names) → RunsMade names sim.old (record { line = sim.new; report = last.new }) (Replies (K.now out.old) (K.now out.new) (status_of result))) }
-    ensures run { IfOk words.now (λ words. RunsRightly (status_of result) (map string_bytes words.items) (F.now files.old) sim.old (record { line = sim.new; report = last.new })) }
     ensures link { IfOk words.now (λ words. (touches (asked (map string_bytes words.items))).line ≡ true → FaultsOfLine last.new sim.new) }
     ensures line { IfOk words.now (λ words. (touches (asked (map string_bytes words.items))).line ≡ false → sim.new ≡ sim.old) }
     ensures undialled { IfOk words.now (λ words. (touches (asked (map string_bytes words.items))).network ≡ false → dial.new ≡ dial.old) }

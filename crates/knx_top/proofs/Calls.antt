@@ -1,39 +1,28 @@
 -- A whole call: what its command does and what is written of its end come to each clause of `knx`.
 use Rattle.std.proofs.Common.{◌≡◌, true, false, List, Option, Some, None, ◌⊎◌, refl, sym, ◌∙◌, subst, ℕ}
-use Rattle.std.specs.Prelude.{IfSome}
-use Rattle.knx_top.specs.Call.{AtMostOneRose, AtPort, Does, Elsewhere, HasRun, HasRunMade, NoRun, Outside, RunsRightly, left_in, touches}
-use Rattle.bus_sim.specs.Loaded.{BusNow}
-use Rattle.knx_top.specs.Command.{Assign, AssignSim, Big, Check, Command, Decode, Find, Gateway, Migrate, Sim, Tables, asked, Download}
+use Rattle.knx_top.specs.Call.{AtMostOneRose, Does, Outside, left_in, touches}
+use Rattle.knx_top.specs.Command.{Assign, AssignSim, Big, Check, Command, Decode, Find, Gateway, Migrate, Sim, Tables, Download}
 use Rattle.call_parts.specs.declared.ending.End.{End}
-use Rattle.knx_top.specs.Headline.{KeepsHeadline}
-use Rattle.knx_top.specs.Ran.{FaultsOfLine, Ran, Left, Commission}
-use Rattle.knx_model.specs.Counts.{counts_of}
-use Rattle.knx_model.specs.Outside.{FilesNow}
-use Rattle.call_parts.specs.Ending.{Is, report_in, wanting}
-use Rattle.call_words.specs.declared.job_word.JobWord.{JobWord}
-use Rattle.call_words.specs.declared.status.Status.{Status}
+use Rattle.knx_top.specs.Ran.{FaultsOfLine}
+use Rattle.call_parts.specs.Ending.{Is, wanting}
 use Rattle.line_model.specs.declared.log.Report.{Report}
-use Rattle.bus_sim.specs.RunNow.{RunNow}
-use Rattle.call_parts.specs.Input.{failed, first_some}
-use Rattle.knx_top.specs.declared.commands.sim.SimTexts.{SimTexts}
-use Rattle.call_words.specs.declared.stop.Stop.{Stop}
+use Rattle.call_parts.specs.Input.{failed}
 use Rattle.knx_top.proofs.commands.Assigns.{assign_sim_written, assign_written}
-use Rattle.knx_top.proofs.commands.Bigs.{made_written, report_summed}
+use Rattle.knx_top.proofs.commands.Bigs.{made_written}
 use Rattle.knx_top.proofs.commands.Downloads.{dialled_written}
 use Rattle.knx_top.proofs.commands.Decodes.{frame_written}
 use Rattle.knx_top.proofs.commands.Finds.{find_written}
 use Rattle.knx_top.proofs.commands.Gateways.{gateway_written}
 use Rattle.call_parts.proofs.Projects.{project_written}
 use Rattle.knx_top.proofs.commands.Sims.{script_written}
-use Rattle.call_parts.proofs.Ends.{stopped_report}
 use Rattle.call_words.specs.declared.stop.Stop.TheVariants as stop
 use Rattle.call_parts.specs.declared.ending.End.TheVariants as ends
 use Rattle.knx_top.specs.commands.Assign.{AssignSimWords, AssignWords, RunsAssign, RunsAssignSim}
-use Rattle.knx_top.specs.commands.Big.{BigWords, RunsMade, commission_made, made, summed}
+use Rattle.knx_top.specs.commands.Big.{BigWords, RunsMade}
 use Rattle.knx_top.specs.commands.Check.{IsCountsText}
 use Rattle.knx_top.specs.commands.Migrate.{IsMigratedText}
 use Rattle.knx_top.specs.commands.Tables.{IsTablesText}
-use Rattle.knx_top.specs.commands.Sim.{RunsScript, SimWords, commission_told, sim_tests, Runs, SimIsRead, failed_of_sim}
+use Rattle.knx_top.specs.commands.Sim.{RunsScript, SimWords, failed_of_sim}
 use Rattle.knx_top.specs.commands.Decode.{TellsOfFrame}
 use Rattle.call_parts.specs.Project.{TellsOfProject, ProjectWords, failed_of_project}
 use Rattle.knx_top.specs.commands.Download.{DownloadWords, RunsDialled, project_named}
@@ -153,67 +142,3 @@ faults_in (Some (Find words)) before after Replied does = (None, does.1)
 faults_in (Some (Assign words)) before after Replied does = (None, does.1)
 faults_in (Some (AssignSim words)) before after Replied does = (failed (Some words.units) does.0.reading, does.0.counts)
 faults_in (Some (Big words)) before after Replied does = (None, does.1)
-
--- ---- what is so of each run
-
--- each run that a commission describes keeps the headline, where its report is told so
-abbrev OfEach : Status → (Report → Type 0) → Type 0
-OfEach ending Told = (c : Commission) (r : RunNow) (report : Report) (jobs : List JobWord) → Ran c r report jobs → Told report → KeepsHeadline ending c r report
-
--- the report of an end is told so
-abbrev pub TellsIts : (Report → Type 0) → End → Type 0
-TellsIts Told end = IfSome (report_in end) Told
-
-begun_of : (ending : Status) (Told : Report → Type 0) → OfEach ending Told
-    → (words : List (List ℕ)) (names : SimWords) (files : FilesNow) (before : BusNow) (after : Left) (texts : SimTexts) (end : End) → after.report ≡ report_in end → TellsIts Told end
-    → asked words ≡ Some (Sim names) → SimIsRead files.file names texts → first_some (sim_tests names texts) ≡ None → Runs (commission_told names texts) before after.line end → RunsRightly ending words files before after
-begun_of ending Told get words names files before after texts (ends.Stops told) report tells e is passes runs = NoRun (record { line = runs.1; report = report })
-begun_of ending Told get words names files before after texts (ends.Tells text) report tells e is passes runs = absurd runs
-begun_of ending Told get words names files before after texts ends.NotOpened report tells e is passes runs = absurd runs
-begun_of ending Told get words names files before after texts (ends.BreaksOff told want) report tells e is passes runs = HasRun names texts told e is passes report (get (commission_told names texts) after.line.run told runs.0 runs.1 tells)
-begun_of ending Told get words names files before after texts (ends.Reports told) report tells e is passes runs = HasRun names texts told.report e is passes report (get (commission_told names texts) after.line.run told.report told.jobs runs.ran tells)
-begun_of ending Told get words names files before after texts (ends.Sums told counts) report tells e is passes runs = absurd runs
-begun_of ending Told get words names files before after texts (ends.Serves served) report tells e is passes runs = absurd runs
-begun_of ending Told get words names files before after texts (ends.Finds searched) report tells e is passes runs = absurd runs
-begun_of ending Told get words names files before after texts (ends.Assigns given) report tells e is passes runs = absurd runs
-
-tested : (ending : Status) (Told : Report → Type 0) → OfEach ending Told
-    → (tests : Option Stop) (words : List (List ℕ)) (names : SimWords) (files files' : FilesNow) (before : BusNow) (after : Left) (Replied : End → Type 0) → ((end : End) → Replied end → TellsIts Told end) → (run : RunsScript names files files' before after Replied)
-    → first_some (sim_tests names run.texts) ≡ tests → asked words ≡ Some (Sim names) → RunsRightly ending words files before after
-tested ending Told get (Some why) words names files files' before after Replied tells run t e = NoRun (record { line = (run.stops why t).1; report = run.report ∙ stopped_report why run.end (run.stops why t).0 })
-tested ending Told get None words names files files' before after Replied tells run t e = begun_of ending Told get words names files before after run.texts run.end run.report (tells run.end run.replied) e run.is_read t (run.runs t)
-
-made_of : (ending : Status) (Told : Report → Type 0) → OfEach ending Told
-    → (words : List (List ℕ)) (names : BigWords) (files : FilesNow) (before : BusNow) (after : Left) (end : End) → after.report ≡ report_in end → TellsIts Told end → asked words ≡ Some (Big names) → Runs (commission_made names) before after.line end → RunsRightly ending words files before after
-made_of ending Told get words names files before after (ends.Stops told) report tells e runs = NoRun (record { line = runs.1; report = report })
-made_of ending Told get words names files before after (ends.Tells text) report tells e runs = absurd runs
-made_of ending Told get words names files before after ends.NotOpened report tells e runs = absurd runs
-made_of ending Told get words names files before after (ends.BreaksOff told want) report tells e runs = HasRunMade names told e report (get (commission_made names) after.line.run told runs.0 runs.1 tells)
-made_of ending Told get words names files before after (ends.Reports told) report tells e runs = HasRunMade names told.report e report (get (commission_made names) after.line.run told.report told.jobs runs.ran tells)
-made_of ending Told get words names files before after (ends.Sums told counts) report tells e runs = absurd runs
-made_of ending Told get words names files before after (ends.Serves served) report tells e runs = absurd runs
-made_of ending Told get words names files before after (ends.Finds searched) report tells e runs = absurd runs
-made_of ending Told get words names files before after (ends.Assigns given) report tells e runs = absurd runs
-
-ran_in : (ending : Status) (Told : Report → Type 0) → OfEach ending Told
-    → (command : Option Command) (words : List (List ℕ)) (before after : Outside) (Replied : End → Type 0) → ((end : End) → Replied end → TellsIts Told end) → asked words ≡ command → Does command before after Replied → RunsRightly ending words before.files before.line (left_in after)
-ran_in ending Told get None words before after Replied tells e does = NoRun does.2
-ran_in ending Told get (Some (Check names)) words before after Replied tells e does = NoRun does.1
-ran_in ending Told get (Some (Tables names)) words before after Replied tells e does = NoRun does.1
-ran_in ending Told get (Some (Migrate names)) words before after Replied tells e does = NoRun does.1
-ran_in ending Told get (Some (Sim names)) words before after Replied tells e does = tested ending Told get _ words names before.files after.files before.line (left_in after) Replied tells does.0 refl e
-ran_in ending Told get (Some (Decode word)) words before after Replied tells e does = NoRun does.2
-ran_in ending Told get (Some (Download names)) words before after Replied tells e does = Elsewhere names e does.1
-ran_in ending Told get (Some (Gateway names)) words before after Replied tells e does = AtPort names e does.1
-ran_in ending Told get (Some (Find names)) words before after Replied tells e does = NoRun does.2
-ran_in ending Told get (Some (Assign names)) words before after Replied tells e does = NoRun does.2
-ran_in ending Told get (Some (AssignSim names)) words before after Replied tells e does = NoRun does.1
-ran_in ending Told get (Some (Big names)) words before after Replied tells e does =
-    let run = does.0 in
-    let told : TellsIts Told run.end = subst (λ (report : Option Report). IfSome report Told) (report_summed (counts_of (made names)) run.end) (tells (summed (counts_of (made names)) run.end) run.replied) in
-    made_of ending Told get words names before.files before.line (left_in after) run.end run.report told e run.runs
-
--- what is so of each run whose report is told as what is written tells it is so of the call's
-pub ran_of : (ending : Status) (Told : Report → Type 0) → ((c : Commission) (r : RunNow) (report : Report) (jobs : List JobWord) → Ran c r report jobs → Told report → KeepsHeadline ending c r report)
-    → (words : List (List ℕ)) (before after : Outside) (Replied : End → Type 0) → ((end : End) → Replied end → TellsIts Told end) → Does (asked words) before after Replied → RunsRightly ending words before.files before.line (left_in after)
-ran_of ending Told get words before after Replied tells does = ran_in ending Told get (asked words) words before after Replied tells refl does

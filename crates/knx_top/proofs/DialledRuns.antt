@@ -15,9 +15,8 @@ use Rattle.line_model.specs.declared.log.Report.{Report}
 use Rattle.line_model.specs.declared.group.GroupTurn.{GroupTurn}
 use Rattle.line_model.specs.Dialled.{Address, DialerNow, TakesBack, Tells}
 use Rattle.line_model.specs.Headline.{IsGoodJob, Keeps}
-use Rattle.line_model.specs.LinkStory.{Story, Untold, Recorded, Full, IsNewLink}
+use Rattle.line_model.specs.LinkStory.{Story, Untold, Recorded, Full}
 use Rattle.line_model.specs.Log.{Job, IsLog}
-use Rattle.tunnel_link.specs.Goes.{GoesOn}
 use Rattle.tunnel_link.specs.Rights.{FailsWhere}
 use Rattle.knx_top.specs.Dialled.{HasItsCause, IsToldOver, MeansOver}
 use Rattle.call_parts.specs.Jobs.{ArePlanned, seen_job}
@@ -47,16 +46,13 @@ means_over project jobs words (Full start events) log planned right = (devices_m
 
 -- ---- the run
 
-pub told_over : (workers : ℕ) (plans : List HubJob) (groups : List GroupTurn) (began after : Story) (place : ℕ) (report : Report) → groups ≡ [] → IsNewLink began → GoesOn began after → AllByRecursion IsGoodJob (map seen_job plans)
+pub told_over : (workers : ℕ) (plans : List HubJob) (groups : List GroupTurn) (after : Story) (place : ℕ) (report : Report) → groups ≡ [] → AllByRecursion IsGoodJob (map seen_job plans)
     → TellsRun workers (tasks_seen plans) (map (λ (job : HubJob). job.device) plans) groups after place report → IsToldOver workers [] (map seen_job plans) after report
-told_over workers plans groups began after place report none new goes good tells =
+told_over workers plans groups after place report none good tells =
     let jobs : List Job = map seen_job plans in
     let are : AreJobs plans jobs = jobs_seen plans in
     let of : AreJobsOf (map (λ (job : HubJob). job.device) plans) jobs = devices_seen plans in
     record {
-      began = began;
-      new = new;
-      goes = goes;
       keeps = subst (λ (turns : List GroupTurn). Keeps jobs turns after (log_in report)) none (tells.headline jobs are);
       right = tells.right jobs are good;
       hastens = subst (λ (turns : List GroupTurn). HastensIn jobs turns (log_in report) after) none (tells.hastens jobs are);

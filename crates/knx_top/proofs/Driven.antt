@@ -1,5 +1,5 @@
 -- A run that the workers of its words drive over the simulated line: what is promised of it, in the words of its commission.
-use Rattle.std.proofs.Common.{◌≡◌, ℕ, inl, inr, List, [], ◌∷◌, ◌++◌, length, map, Option, Some, None, refl, sym, ap, ◌∙◌, subst, arith}
+use Rattle.std.proofs.Common.{◌≡◌, ◌≤◌, ℕ, inl, inr, List, [], ◌∷◌, ◌++◌, length, map, Option, Some, None, refl, sym, ap, ◌∙◌, subst, arith}
 use Rattle.std.specs.Prelude.{IfSome}
 use Rattle.std.specs.List.{AllByRecursion}
 use Rattle.std.proofs.lemmas.List.{length-map}
@@ -43,10 +43,13 @@ use Rattle.tunnel_link.specs.Goes.{GoesOn}
 use Rattle.tunnel_link.specs.Rights.{FailsWhere, WhereTold}
 use Rattle.knx_top.specs.Begun.{IsOrder}
 use Rattle.call_parts.specs.Jobs.{seen_job}
-use Rattle.knx_top.specs.Ran.{FailsAtLast, HasThreeTries, IsRunOf, KeepsPromises, Ran, log_in, Commission}
+use Rattle.call_parts.specs.Options.{most_jobs}
+use Rattle.call_parts.specs.Turns.{most_turns}
+use Rattle.knx_top.specs.Ran.{FailsAtLast, HasThreeTries, IsRunOf, IsTold, KeepsPromises, Ran, log_in, Commission}
 use Rattle.knx_top.specs.declared.commands.sim.judge.Order.{Order}
 use Rattle.knx_top.proofs.Meanings.{devices_mean, done_means}
 use Rattle.knx_top.proofs.Telegrams.{telegrams_by_project}
+use Rattle.knx_top.proofs.Undisturbed.{Laws, nothing_fails}
 
 -- ---- the jobs of the hub are those that the definitions see
 
@@ -132,11 +135,11 @@ keeps_promises c order r log is run right =
 
 -- ---- all of it
 
-pub driven : (c : Commission) (order : Order) (workers : ℕ) (turns : List GroupTurn) (line : BusNow) (place : ℕ) (report : Report) → IsOrder c order → workers ≡ c.workers → turns ≡ c.turns → order.line.run.begun.clients ≡ One → GoesOn (story order.line.run) (story line.run) → script line.run ≡ script order.line.run
+pub driven : (laws : Laws) (c : Commission) (order : Order) (workers : ℕ) (turns : List GroupTurn) (line : BusNow) (place : ℕ) (report : Report) → IsOrder c order → workers ≡ c.workers → turns ≡ c.turns → order.line.run.begun.clients ≡ One → GoesOn (story order.line.run) (story line.run) → script line.run ≡ script order.line.run
     → IsFresh (start line.run) → IsLegal (mode line.run) (start line.run) line.run.events → Follows (script line.run) (mode line.run) (start line.run) line.run.events
     → AllByRecursion IsGoodJob (map seen_job order.plans) → TellsRun workers (tasks_seen order.plans) (map (λ (job : HubJob). job.device) order.plans) turns (story line.run) place report
     → HasThreeTries report.fault → IfSome report.fault (λ fault. FailsAtLast fault line) → Ran c line.run report order.jobs
-driven c order workers turns line place report is by sends one goes says fresh legal follows good tells tries last =
+driven laws c order workers turns line place report is by sends one goes says fresh legal follows good tells tries last =
     let jobs : List Job = map seen_job order.plans in
     let are : AreJobs order.plans jobs = jobs_seen order.plans in
     let of : AreJobsOf (map (λ (job : HubJob). job.device) order.plans) jobs = devices_seen order.plans in
@@ -147,28 +150,33 @@ driven c order workers turns line place report is by sends one goes says fresh l
     let left : LeavesOver jobs turns (Full (start line.run) line.run.events) (log_in report) = subst (λ s. LeavesOver jobs turns s (log_in report)) whole (tells.leaves jobs of) in
     let run : IsRunOf c line.run = is_run c order line.run is (same_start order.line.run line.run one goes) says fresh
     (subst (λ m. IsLegal m (start line.run) line.run.events) in_run legal) (subst (λ m. Follows (script line.run) m (start line.run) line.run.events) in_run follows) in
+    let promises : KeepsPromises c jobs line.run (log_in report) = keeps_promises c order line.run (log_in report) is run now_right in
+    let few_jobs : length jobs ≤ most_jobs = omega (arith, length-map order.plans seen_job, is.prepared.few) in
+    let few_turns : length c.turns ≤ most_turns = omega (arith, ap length is.turns, ap length is.prepared.turns, is.prepared.few_turns) in
+    let told : IsTold c jobs line.run report = record {
+      disciplined = subst (λ (ts : List GroupTurn). IsDisciplined jobs ts (length line.run.events) (placed (start line.run) line.run.events) (log_in report)) sends kept.disciplined;
+      thorough = subst (λ s. IsThoroughOver jobs s (log_in report)) whole (tells.thorough jobs are);
+      hastens = subst (λ (ts : List GroupTurn). LosesNoTimes jobs ts (log_in report) (placed (start line.run) line.run.events)) sends (subst (λ s. HastensIn jobs turns (log_in report) s) whole (tells.hastens jobs are) (placed (start line.run) line.run.events) refl);
+      leaves = subst (λ (ts : List GroupTurn). LeavesRightly jobs ts (log_in report) (placed (start line.run) line.run.events)) sends left;
+      fault = subst (λ s. FaultRightIn jobs (log_in report) report.fault (record_in s)) whole (tells.fault jobs are);
+      tries = tries;
+      last = failed_at_end report.fault line last;
+      ended = λ none. tells.over none jobs of;
+      sent = λ none. subst (λ (ts : List GroupTurn). ¬ TurnUnfinished ts (log_in report)) sends (tells.told none);
+      in_order = tells.in_order jobs of;
+      closed = λ none. subst (λ s. WhereTold (HasClosed (log_in report)) s) whole (tells.closed none) (placed (start line.run) line.run.events) refl;
+      heard = subst (λ s. HeardIn report.fault report.missed report.heard (record_in s)) whole tells.heard;
+      seats = subst (λ (n : ℕ). IsOfWorkers n (log_in report)) by tells.seats;
+      dropped = subst (λ s. DropsIn report.dropped (record_in s)) whole tells.dropped;
+    } in
     record {
       run = run;
       words_are = is.prepared.jobs;
       jobs = jobs;
       planned = is.prepared.plans;
-      few_jobs = omega (arith, length-map order.plans seen_job, is.prepared.few);
-      few_turns = omega (arith, ap length is.turns, ap length is.prepared.turns, is.prepared.few_turns);
-      promises = keeps_promises c order line.run (log_in report) is run now_right;
-      told = record {
-        disciplined = subst (λ (ts : List GroupTurn). IsDisciplined jobs ts (length line.run.events) (placed (start line.run) line.run.events) (log_in report)) sends kept.disciplined;
-        thorough = subst (λ s. IsThoroughOver jobs s (log_in report)) whole (tells.thorough jobs are);
-        hastens = subst (λ (ts : List GroupTurn). LosesNoTimes jobs ts (log_in report) (placed (start line.run) line.run.events)) sends (subst (λ s. HastensIn jobs turns (log_in report) s) whole (tells.hastens jobs are) (placed (start line.run) line.run.events) refl);
-        leaves = subst (λ (ts : List GroupTurn). LeavesRightly jobs ts (log_in report) (placed (start line.run) line.run.events)) sends left;
-        fault = subst (λ s. FaultRightIn jobs (log_in report) report.fault (record_in s)) whole (tells.fault jobs are);
-        tries = tries;
-        last = failed_at_end report.fault line last;
-        ended = λ none. tells.over none jobs of;
-        sent = λ none. subst (λ (ts : List GroupTurn). ¬ TurnUnfinished ts (log_in report)) sends (tells.told none);
-        in_order = tells.in_order jobs of;
-        closed = λ none. subst (λ s. WhereTold (HasClosed (log_in report)) s) whole (tells.closed none) (placed (start line.run) line.run.events) refl;
-        heard = subst (λ s. HeardIn report.fault report.missed report.heard (record_in s)) whole tells.heard;
-        seats = subst (λ (n : ℕ). IsOfWorkers n (log_in report)) by tells.seats;
-        dropped = subst (λ s. DropsIn report.dropped (record_in s)) whole tells.dropped;
-      };
+      few_jobs = few_jobs;
+      few_turns = few_turns;
+      promises = promises;
+      told = told;
+      undisturbed = λ u. nothing_fails laws c line.run report order.jobs jobs is.prepared.plans few_jobs few_turns run promises told u;
     }

@@ -2,27 +2,24 @@
 use Rattle.std.specs.Prelude.{ℕ, Bool, true, false, List, [], ◌∷◌, None, Option, Some, ◌≡◌}
 use Rattle.bus_sim.specs.Loaded.{BusNow}
 use Rattle.address_sim.specs.Driven.{BusNow as UnitsNow}
-use Rattle.knx_top.specs.Command.{Assign, AssignSim, Big, Check, Command, Decode, Download, Find, Gateway, Migrate, Sim, Tables, asked}
-use Rattle.knx_top.specs.Headline.{KeepsHeadline}
+use Rattle.knx_top.specs.Command.{Assign, AssignSim, Big, Check, Command, Decode, Download, Find, Gateway, Migrate, Sim, Tables}
 use Rattle.knx_top.specs.Ran.{FaultsOfLine, Left}
 use Rattle.line_model.specs.Dialled.{DialerNow}
 use Rattle.knx_top.specs.commands.Assign.{RunsAssign, RunsAssignSim}
-use Rattle.knx_top.specs.commands.Big.{BigWords, RunsMade, commission_made}
-use Rattle.knx_top.specs.commands.Download.{DownloadWords, RunsDialled, files_of_download}
+use Rattle.knx_top.specs.commands.Big.{RunsMade}
+use Rattle.knx_top.specs.commands.Download.{RunsDialled, files_of_download}
 use Rattle.knx_top.specs.commands.Find.{RunsFind}
 use Rattle.call_parts.specs.declared.ending.End.{End}
 use Rattle.knx_model.specs.Outside.{FilesNow}
-use Rattle.knx_top.specs.commands.Gateway.{GatewayWords, RunsGateway, files_of_gateway}
+use Rattle.knx_top.specs.commands.Gateway.{RunsGateway, files_of_gateway}
 use Rattle.knx_top.specs.commands.Check.{IsCountsText}
 use Rattle.knx_top.specs.commands.Migrate.{IsMigratedText}
 use Rattle.knx_top.specs.commands.Tables.{IsTablesText}
-use Rattle.call_parts.specs.Input.{OnlyRose, first_some}
+use Rattle.call_parts.specs.Input.{OnlyRose}
 use Rattle.line_model.specs.declared.log.Report.{Report}
-use Rattle.knx_top.specs.commands.Sim.{RunsScript, files_of_sim, SimIsRead, SimWords, commission_told, sim_tests}
-use Rattle.knx_top.specs.declared.commands.sim.SimTexts.{SimTexts}
+use Rattle.knx_top.specs.commands.Sim.{RunsScript, files_of_sim}
 use Rattle.knx_top.specs.commands.Decode.{TellsOfFrame}
 use Rattle.call_parts.specs.Project.{TellsOfProject, files_of_project}
-use Rattle.call_words.specs.declared.status.Status.{Status}
 use Rattle.call_words.specs.declared.stop.Stop.TheVariants as stop
 use Rattle.call_parts.specs.declared.ending.End.TheVariants as ends
 
@@ -105,15 +102,3 @@ Does (Some (Find words)) before after Replied = RunsFind words before.dialer aft
 Does (Some (Assign words)) before after Replied = RunsAssign words before.dialer after.dialer Replied × OnlyRose None before.files.faults after.files.faults × HasNoRun before.line (left_in after)
 Does (Some (AssignSim words)) before after Replied = RunsAssignSim words before.files after.files before.units after.units Replied × HasNoRun before.line (left_in after)
 Does (Some (Big words)) before after Replied = RunsMade words before.line (left_in after) Replied × OnlyRose None before.files.faults after.files.faults × FaultsOfLine after.report after.line
-
--- ---- the run of a call
-
--- no run was begun, or only one over a dialled link, or the simulated line was for a port; or one run of what the words ask for and the files gave, in which
--- no test fails, or of the line that the words make, keeps the whole headline, and its report is left
-pub data RunsRightly (ending : Status) (words : List (List ℕ)) (files : FilesNow) (before : BusNow) (after : Left) : Type 0 where
-  NoRun : HasNoRun before after → RunsRightly ending words files before after
-  Elsewhere : (names : DownloadWords) → asked words ≡ Some (Download names) → after.line ≡ before → RunsRightly ending words files before after
-  AtPort : (names : GatewayWords) → asked words ≡ Some (Gateway names) → after.report ≡ None → RunsRightly ending words files before after
-  HasRun : (names : SimWords) (texts : SimTexts) (report : Report) → asked words ≡ Some (Sim names) → SimIsRead files.file names texts → first_some (sim_tests names texts) ≡ None → after.report ≡ Some report
-      → KeepsHeadline ending (commission_told names texts) after.line.run report → RunsRightly ending words files before after
-  HasRunMade : (names : BigWords) (report : Report) → asked words ≡ Some (Big names) → after.report ≡ Some report → KeepsHeadline ending (commission_made names) after.line.run report → RunsRightly ending words files before after

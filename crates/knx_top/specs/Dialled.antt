@@ -4,8 +4,7 @@ use Rattle.line_model.specs.Dialled.{Address, DialerNow, TakesBack, Tells}
 use Rattle.line_model.specs.Log.{AllOver, IsLog, Job, OneDownloaderPerDevice, TakenInOrder}
 use Rattle.hub_core.specs.Promises.{DropsIn, FaultRightIn, HastensIn, IsRightOver, LeavesOver}
 use Rattle.tunnel_link.specs.Rights.{FailsWhere, WhereTold}
-use Rattle.line_model.specs.LinkStory.{Full, IsNewLink, Recorded, Story, record_in, Untold}
-use Rattle.tunnel_link.specs.Goes.{GoesOn}
+use Rattle.line_model.specs.LinkStory.{Full, Recorded, Story, record_in, Untold}
 use Rattle.line_model.specs.declared.group.GroupTurn.{GroupTurn}
 use Rattle.hub_core.specs.Closed.{HasClosed}
 use Rattle.hub_core.specs.Heard.{HeardIn}
@@ -28,10 +27,6 @@ MeansOver project jobs (Full start events) log = OldStoppedOrNew (RunsMeaning pr
 
 -- all that is told of a run by so many workers, with these jobs and group turns, by what its link told
 pub record IsToldOver (workers : ℕ) (turns : List GroupTurn) (jobs : List Job) (story : Story) (report : Report) : Type 0 where
-  -- the link was new, and its start stays
-  pub began : Story
-  pub new : IsNewLink began
-  pub goes : GoesOn began story
   -- the client keeps the discipline of the line, and so the headline holds
   pub keeps : Keeps jobs turns story (log_in report)
   pub right : IsRightOver jobs story (log_in report)

@@ -40,6 +40,7 @@ use Rattle.line_model.specs.Record.{record_of, placed}
 use Rattle.line_model.specs.Lines.{script_of}
 use Rattle.line_model.specs.ClientView.{indications}
 use Rattle.line_model.specs.Dropped.{dropped}
+use Rattle.knx_top.specs.Undisturbed.{IsUndisturbed, NothingFails}
 
 -- ---- what a run is begun with
 
@@ -128,6 +129,10 @@ pub record Ran (c : Commission) (r : RunNow) (report : Report) (words : List Job
   pub few_turns : length c.turns ≤ most_turns
   pub promises : KeepsPromises c jobs r (log_in report)
   pub told : IsTold c jobs r report
+  -- Where no line of the script disturbs, and the jobs' devices are on the line, nothing fails, and the run isn't broken off but for want of memory, by a
+  -- flood of datagrams where a group telegram asks for values, or at the last time of 64 bits: each load is told done, each check done exactly where an
+  -- earlier job loads its device or its device began with the new image, and each group telegram sent.
+  pub undisturbed : IsUndisturbed c.project c.before c.script jobs → NothingFails jobs c.turns r (log_in report) report.fault
 
 -- P holds of the jobs of the run: those that the words name, or a load of each device, with the plans of the new project's compiled images
 pub record OfItsJobs (c : Commission) (P : List Job → Type 0) : Type 0 where

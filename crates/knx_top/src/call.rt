@@ -4,7 +4,7 @@ ghost use Rattle.std.specs.Prelude.{◌≡◌, ◌≤◌, ◌+◌, ℕ, List, No
 ghost use Rattle.call_words.specs.declared.stop.Stop.TheVariants.{Usage};
 ghost use Rattle.knx_model.specs.Outside.{one_more};
 ghost use Rattle.call_parts.specs.declared.ending.End.TheVariants.{Stops};
-ghost use Rattle.knx_top.specs.Call.{AtMostOneRose, Does, RunsRightly, files_of, touches, touches_units};
+ghost use Rattle.knx_top.specs.Call.{AtMostOneRose, Does, files_of, touches, touches_units};
 ghost use Rattle.knx_top.specs.Command.{Assign as AskedAssign, AssignSim as AskedAssignSim, Big as AskedBig, Check as AskedCheck, Decode as AskedDecode, Download as AskedDownload, Find as AskedFind, Gateway as AskedGateway, Migrate as AskedMigrate, Sim as AskedSim, Tables as AskedTables, asked, command_of};
 ghost use Rattle.call_parts.specs.Ending.{Is, Replies, report_in};
 ghost use Rattle.knx_top.specs.Ran.{FaultsOfLine};
@@ -29,10 +29,6 @@ use address_sim::AddressBus;
 use bus_sim::SimBus;
 use call_parts::{End, tell, tell_end};
 use call_words::Status;
-use calm_law::{
-    each_check_is_exact, nothing_fails_on_a_calm_line, plans_cost_by_their_lists,
-    the_gateway_tells_its_own_address, undisturbing_scripts_are_calm,
-};
 use knx_model::{Files, Sink};
 use line_model::{Dialer, Gate, Report, Watcher};
 use report_text::USAGE;
@@ -148,6 +144,9 @@ pub fn knx<
     // and of `migrate` the text of the project in version 2, which means for each device what the project means
     ensures migrate { (names : ProjectWords) → asked (map string_bytes words.now) ≡ Some (AskedMigrate names) → TellsOfProject IsMigratedText names (F.now files.old) (F.now files.new) (Replies (K.now out.old) (K.now out.new) result) }
     ensures decode { (word : List ℕ) → asked (map string_bytes words.now) ≡ Some (AskedDecode word) → TellsOfFrame word (Replies (K.now out.old) (K.now out.new) result) }
+    // the run of `sim` keeps the whole headline: whatever is lost, repeated or cut, at every moment each device keeps its starting content, or is
+    // stopped, or runs what the project says; each group telegram acts on exactly the objects that the running configuration links; done is told only where what the
+    // project says runs; no tunnelling request acts twice; and so on, sentence by sentence
     ensures sim { (names : SimWords) → asked (map string_bytes words.now) ≡ Some (AskedSim names) → RunsScript names (F.now files.old) (F.now files.new) sim.old (record { line = sim.new; report = last.new }) (Replies (K.now out.old) (K.now out.new) result) }
     ensures download { (names : DownloadWords) → asked (map string_bytes words.now) ≡ Some (AskedDownload names) → RunsDialled names (F.now files.old) (F.now files.new) (D.now dial.old) (D.now dial.new) last.new (Replies (K.now out.old) (K.now out.new) result) }
     ensures gateway { (names : GatewayWords) → asked (map string_bytes words.now) ≡ Some (AskedGateway names) → RunsGateway names (F.now files.old) (F.now files.new) (D.now dial.old) (D.now dial.new) sim.old sim.new (Replies (K.now out.old) (K.now out.new) result) }
@@ -158,10 +157,6 @@ pub fn knx<
     ensures assign_sim { (names : AssignSimWords) → asked (map string_bytes words.now) ≡ Some (AskedAssignSim names) → RunsAssignSim names (F.now files.old) (F.now files.new) units.old units.new (Replies (K.now out.old) (K.now out.new) result) }
     // the line that the words of `big` make is run as by `sim`, and nothing is refused
     ensures big { (names : BigWords) → asked (map string_bytes words.now) ≡ Some (AskedBig names) → RunsMade names sim.old (record { line = sim.new; report = last.new }) (Replies (K.now out.old) (K.now out.new) result) }
-    // one run, which the words ask for, keeps the whole headline: whatever is lost, repeated or cut, at every moment each device keeps its starting content, or is
-    // stopped, or runs what the project says; each group telegram acts on exactly the objects that the running configuration links; done is told only where what the
-    // project says runs; no tunnelling request acts twice; and so on, sentence by sentence
-    ensures run { RunsRightly result (map string_bytes words.now) (F.now files.old) sim.old (record { line = sim.new; report = last.new }) }
     // that the link failed is told of a run over the simulated line only at the last time of 64 bits, where a call of that line failed
     ensures link { (touches (asked (map string_bytes words.now))).line ≡ true → FaultsOfLine last.new sim.new }
     // what its command doesn't touch stays: the simulated line, the network, the simulated bus of units, and that there is no run
@@ -178,11 +173,6 @@ pub fn knx<
     ensures faults { AtMostOneRose (F.now files.old).faults (F.now files.new).faults }
     ensures written { (K.now out.new).writes ≡ one_more (K.now out.old).writes }
 {
-    undisturbing_scripts_are_calm();
-    nothing_fails_on_a_calm_line();
-    each_check_is_exact();
-    the_gateway_tells_its_own_address();
-    plans_cost_by_their_lists();
     *last = None;
     answer(
         rt, alloc, words, files, out, sim, units, dial, gate, watch, last,

@@ -4,9 +4,6 @@ use Rattle.knx_cli.proofs.ended.status_of.Goals as goal
 pub returns-in-Ok-clause-usage : goal.returns-in-Ok-clause-usage
 returns-in-Ok-clause-usage g c = rw (c.in-Ok.is, ← c.as_slice.ensures.value, told c.knx.result c.number.result c.number.ensures) c.knx.ensures.usage
 
-pub returns-in-Ok-clause-run : goal.returns-in-Ok-clause-run
-returns-in-Ok-clause-run g c = rw (c.in-Ok.is, ← c.as_slice.ensures.value, told c.knx.result c.number.result c.number.ensures) c.knx.ensures.run
-
 pub returns-in-Ok-clause-link : goal.returns-in-Ok-clause-link
 returns-in-Ok-clause-link g c = rw (c.in-Ok.is, ← c.as_slice.ensures.value) c.knx.ensures.link
 

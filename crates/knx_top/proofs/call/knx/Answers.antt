@@ -1,6 +1,4 @@
-use Rattle.knx_top.proofs.Calls.{usage_of, check_of, tables_of, migrate_of, decode_of, sim_of, big_of, link_of, download_of, gateway_of, find_of, assign_of, assign_sim_of, line_of, no_run_of, faults_in, ran_of}
-use Rattle.knx_top.proofs.Undisturbed.{Laws, nothing_fails}
-use Rattle.knx_top.proofs.Statuses.{AnswersWith, answers_with}
+use Rattle.knx_top.proofs.Calls.{usage_of, check_of, tables_of, migrate_of, decode_of, sim_of, big_of, link_of, download_of, gateway_of, find_of, assign_of, assign_sim_of, line_of, no_run_of, faults_in}
 use Rattle.knx_top.proofs.Watches.{watches_of}
 use Rattle.line_model.specs.Watched.{watch_in}
 use Rattle.std.proofs.Common.{ap}
@@ -53,23 +51,6 @@ returns-clause-no_run g c = no_run_of _ _ _ _ c.answer.ensures.does
 
 pub returns-clause-faults : goal.returns-clause-faults
 returns-clause-faults g c = faults_in _ _ _ _ c.answer.ensures.does
-
-pub returns-clause-run : goal.returns-clause-run
-returns-clause-run g c =
-    let laws : Laws = record {
-      calm = c.undisturbing_scripts_are_calm.ensures;
-      prompt = c.nothing_fails_on_a_calm_line.ensures.prompt;
-      refuses = c.nothing_fails_on_a_calm_line.ensures.refuses;
-      ended = c.nothing_fails_on_a_calm_line.ensures.ended;
-      reached = c.nothing_fails_on_a_calm_line.ensures.reached;
-      told = c.the_gateway_tells_its_own_address.ensures;
-      checks = c.each_check_is_exact.ensures;
-      unread = c.nothing_fails_on_a_calm_line.ensures.unread;
-      load_costs = c.plans_cost_by_their_lists.ensures.loads;
-      check_costs = c.plans_cost_by_their_lists.ensures.checks;
-    } in
-    ran_of c.answer.result (AnswersWith c.answer.result) (λ commission r report words ran answered. record { words = words; ran = ran; undisturbed = λ u. nothing_fails laws commission r report words ran u c.answer.result answered }) _ _ _ _
-    (answers_with (g.K.Sink.now c.args.out.now) (g.K.Sink.now c.answer.new.out) c.answer.result) c.answer.ensures.does
 
 pub returns-clause-watched : goal.returns-clause-watched
 returns-clause-watched g c = watches_of _ (g.F.Files.now c.args.files.now).file _ _ _ (no_run_of _ _ _ _ c.answer.ensures.does) (λ none. ap (watch_in g.W.Watcher.watch) (c.answer.ensures.unwatched none)) c.answer.ensures.watched

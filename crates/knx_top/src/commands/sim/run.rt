@@ -26,6 +26,10 @@ use crate::watched::{Run, commission as commission_line};
 use bus_sim::SimBus;
 use call_parts::{End, Reported, SimOptions};
 use call_words::JobWord;
+use calm_law::{
+    each_check_is_exact, nothing_fails_on_a_calm_line, plans_cost_by_their_lists,
+    the_gateway_tells_its_own_address, undisturbing_scripts_are_calm,
+};
 use knx_model::{Image, IndAddr, List};
 use line_model::{Gate, Report, Watcher};
 use std::alloc::Global;
@@ -99,6 +103,11 @@ pub fn run<R: Threads + Wait + Sync, G: Gate + Sync, W: Watcher + Send>(
     let (line, report) = commission_line(rt, alloc, run, gate, watch);
     line.keeps();
     *sim = line;
+    undisturbing_scripts_are_calm();
+    nothing_fails_on_a_calm_line();
+    each_check_is_exact();
+    the_gateway_tells_its_own_address();
+    plans_cost_by_their_lists();
     end_of_run(
         alloc,
         sim,

@@ -10,6 +10,7 @@ use Rattle.call_parts.specs.Jobs.{seen_job}
 use Rattle.call_parts.specs.Options as asked
 use Rattle.knx_top.specs.Ran.{FaultsOfLine, log_in}
 use Rattle.bus_sim.proofs.New.{new_line}
+use Rattle.knx_top.proofs.Undisturbed.{Laws}
 use Rattle.knx_top.proofs.Driven.{driven, faults_last, jobs_seen, still_one}
 use Rattle.knx_top.proofs.Shows.{fault_so, runs_so, still_there}
 use Rattle.knx_top.specs.commands.Sim.{ShowsRun}
@@ -35,8 +36,20 @@ returns-clause-runs g c = λ commission is options.
     (subst (λ (before : ℕ). IfSome report.fault (λ fault. FailsWhere fault before line.faults)) c.requires.sound c.commission-line.ensures.commissioned.cause) in
     let workers : ℕ = c.count.result in
     let log : Bool = c.args.options.now.log in
+    let laws : Laws = record {
+      calm = c.undisturbing_scripts_are_calm.ensures;
+      prompt = c.nothing_fails_on_a_calm_line.ensures.prompt;
+      refuses = c.nothing_fails_on_a_calm_line.ensures.refuses;
+      ended = c.nothing_fails_on_a_calm_line.ensures.ended;
+      reached = c.nothing_fails_on_a_calm_line.ensures.reached;
+      told = c.the_gateway_tells_its_own_address.ensures;
+      checks = c.each_check_is_exact.ensures;
+      unread = c.nothing_fails_on_a_calm_line.ensures.unread;
+      load_costs = c.plans_cost_by_their_lists.ensures.loads;
+      check_costs = c.plans_cost_by_their_lists.ensures.checks;
+    } in
     runs_so commission c.args.sim.now line report c.args.order.jobs c.len-turn_count.result c.args.order.devices log c.end_of_run.result
-    (driven commission c.args.order workers c.args.order.turns line (length line.run.events) report is (c.count.ensures.value ∙ c.workers.ensures ∙ ap (λ (o : asked.SimOptions). asked.workers_of o) (sym options) ∙ sym is.workers) (is.prepared.turns ∙ sym is.turns) c.requires.one c.commission-line.ensures.commissioned.grows c.commission-line.ensures.commissioned.script c.keeps-2.ensures.fresh c.keeps-2.ensures.legal c.keeps-2.ensures.follows c.requires.good c.commission-line.ensures.commissioned.tells
+    (driven laws commission c.args.order workers c.args.order.turns line (length line.run.events) report is (c.count.ensures.value ∙ c.workers.ensures ∙ ap (λ (o : asked.SimOptions). asked.workers_of o) (sym options) ∙ sym is.workers) (is.prepared.turns ∙ sym is.turns) c.requires.one c.commission-line.ensures.commissioned.grows c.commission-line.ensures.commissioned.script c.keeps-2.ensures.fresh c.keeps-2.ensures.legal c.keeps-2.ensures.follows c.requires.good c.commission-line.ensures.commissioned.tells
     c.end_of_run.ensures.tries cause)
     is.prepared.devices (c.len-turn_count.ensures ∙ ap (λ (ts : List GroupTurn). length ts) (is.prepared.turns ∙ sym is.turns)) (ap (λ (o : asked.SimOptions). o.log) (sym options))
     (subst (λ (devices : List (IndAddr × Option Image)). ShowsRun line.run report c.args.order.jobs c.len-turn_count.result devices log c.end_of_run.result) c.as_slice.ensures c.end_of_run.ensures.shows)
