@@ -1,5 +1,5 @@
 -- A whole call: what its command does and what is written of its end come to each clause of `knx`.
-use Rattle.std.proofs.Common.{◌≡◌, true, false, List, Option, Some, None, ◌⊎◌, refl, sym, ◌∙◌, subst, ℕ}
+use Rattle.std.proofs.Common.{◌≡◌, true, false, List, Option, Some, None, ◌⊎◌, sym, subst, ℕ}
 use Rattle.knx_top.specs.Call.{AtMostOneRose, Does, Outside, left_in, touches}
 use Rattle.knx_top.specs.Command.{Assign, AssignSim, Big, Check, Command, Decode, Find, Gateway, Migrate, Sim, Tables, Download}
 use Rattle.call_parts.specs.declared.ending.End.{End}

@@ -200,7 +200,7 @@ module _ (words : BigWords) (some : 1 ≤ words.devices) (few : words.devices �
 
     module _ (none : report.fault ≡ None) (served : AllServed ran.jobs c.turns (start r) log) where
       form : IsLog ran.jobs c.turns (length r.events) log
-      form = ran.told.disciplined.form
+      form = ran.told.keeps.disciplined.form
 
       -- each job loads
       loads_at : (jobs : List Job) (ds : List IndAddr) (i : ℕ) → ArePlanned p jobs (map load_of ds) → i < length jobs → (job : Job) × (slice_get jobs i ≡ Some job) × (job.loads ≡ true)

@@ -5,6 +5,7 @@ use Rattle.std.specs.Prelude.{IfSome, length, not, reverse, ◌||◌, ◌==◌, 
 use Rattle.std.specs.List.{AllByRecursion, list_all}
 use Rattle.std.proofs.lemmas.Bool.{and_parts}
 use Rattle.std.proofs.lemmas.Bool.Decides.{nat_tests}
+use Rattle.bus_sim.specs.Ended.{IsAtEnd}
 use Rattle.bus_sim.specs.RunNow.{RunNow, start}
 use Rattle.call_words.specs.declared.job_word.JobKind.{JobKind}
 use Rattle.call_words.specs.declared.job_word.JobKind.TheVariants.{Load, Check}
@@ -45,6 +46,7 @@ use Rattle.line_model.specs.Follows.{Follows}
 use Rattle.line_model.specs.Fresh.{IsFresh}
 use Rattle.line_model.specs.Legal.{IsLegal, OfDevice}
 use Rattle.line_model.specs.Lines.{Script, is_off, says_off, script_of}
+use Rattle.line_model.specs.LinkStory.{Full}
 use Rattle.line_model.specs.Log.{Job, Over, TurnUnfinished, has_entry, is_turn, job_of, state_of, turn_of}
 use Rattle.line_model.specs.OldStoppedOrNew.{DoneSo, IsUntouched, MeansWhereDone, RunsWhereDone, StaysDone, world_at}
 use Rattle.line_model.specs.Record.{Entry, Placed, placed, record_of}
@@ -58,7 +60,7 @@ use Rattle.table_compiler.proofs.Unique.{one_image}
 use Rattle.knx_top.proofs.Meanings.{planned_of}
 use Rattle.call_parts.specs.Options.{most_jobs}
 use Rattle.call_parts.specs.Turns.{most_turns}
-use Rattle.knx_top.specs.Ran.{Commission, IsRunOf, IsTold, KeepsPromises, log_in}
+use Rattle.knx_top.specs.Ran.{Commission, IsRunOf, IsToldOver, KeepsPromises, log_in}
 use Rattle.knx_top.specs.Undisturbed.{IsUndisturbed, AllServed, EndsSo, FloodsSo, NothingFails}
 use Rattle.knx_top.proofs.Unflooded.{ChecksCost, LoadsCost, unflooded}
 use Rattle.knx_top.proofs.Unbroken.{no_three, none_elsewhere, none_wrong}
@@ -205,24 +207,24 @@ each_asked : (jobs : List Job) (turns : List GroupTurn) (log : List LogEntry) (p
 each_asked jobs turns log [] h = tt
 each_asked jobs turns log (p ∷ older) h = (h.0.asks, each_asked jobs turns log older h.1)
 
-client : (c : Commission) (jobs : List Job) (r : RunNow) (report : Report) → IsRunOf c r → IsTold c jobs r report → IsPromptClient jobs c.turns (start r) r.events (log_in report)
+client : (c : Commission) (jobs : List Job) (r : RunNow) (report : Report) → IsRunOf c r → IsToldOver c.workers c.turns jobs (Full (start r) r.events) report → IsPromptClient jobs c.turns (start r) r.events (log_in report)
 client c jobs r report run told = record {
   safe = record {
     fresh = run.fresh;
     legal = run.legal;
     safe = record {
-      form = told.disciplined.form;
-      alone = told.disciplined.alone;
-      truly = told.disciplined.truly;
-      renews = told.disciplined.renews;
-      sends = told.disciplined.sends;
-      asks = each_asked jobs c.turns (log_in report) (placed (start r) r.events) told.disciplined.asks.each;
+      form = told.keeps.disciplined.form;
+      alone = told.keeps.disciplined.alone;
+      truly = told.keeps.disciplined.truly;
+      renews = told.keeps.disciplined.renews;
+      sends = told.keeps.disciplined.sends;
+      asks = each_asked jobs c.turns (log_in report) (placed (start r) r.events) told.keeps.disciplined.asks.each;
     };
   };
   ends = told.thorough.ends;
   begins = told.thorough.begins;
-  acknowledges = told.disciplined.asks.acknowledges;
-  hastens = told.hastens;
+  acknowledges = told.keeps.disciplined.asks.acknowledges;
+  hastens = told.hastens (placed (start r) r.events) refl;
 }
 
 -- ---- the group telegrams: each that is told was sent, where none was lost
@@ -277,7 +279,7 @@ pub record Laws : Type 0 where
   pub load_costs : LoadsCost
   pub check_costs : ChecksCost
 
-module _ (laws : Laws) (c : Commission) (r : RunNow) (report : Report) (words : List JobWord) (jobs : List Job) (planned : ArePlanned c.project jobs words) (few_jobs : length jobs ≤ most_jobs) (few_turns : length c.turns ≤ most_turns) (run : IsRunOf c r) (promises : KeepsPromises c jobs r (log_in report)) (told : IsTold c jobs r report) where
+module _ (laws : Laws) (c : Commission) (r : RunNow) (report : Report) (words : List JobWord) (jobs : List Job) (planned : ArePlanned c.project jobs words) (few_jobs : length jobs ≤ most_jobs) (few_turns : length c.turns ≤ most_turns) (run : IsRunOf c r) (promises : KeepsPromises c jobs r (log_in report)) (told : IsToldOver c.workers c.turns jobs (Full (start r) r.events) report) (last : report.fault ≡ Some LinkFailed → IsAtEnd r) where
   answered : AllByRecursion IsAnsweredRightly jobs
   answered = all_answered c.project jobs words planned
 
@@ -340,7 +342,7 @@ module _ (laws : Laws) (c : Commission) (r : RunNow) (report : Report) (words : 
         by_reads : (b : Bool) → some_reads c.turns ≡ b → FloodsSo jobs c.turns r (log_in report)
         by_reads true some = (some, right)
         by_reads false none = absurd (unflooded c.project jobs words c.turns r (log_in report) planned few_jobs few_turns told.leaves laws.load_costs laws.check_costs (laws.unread jobs c.turns (start r) r.events (log_in report) each_served devices power by calm short none) right)
-    ends (Some LinkFailed) e right = told.last e
+    ends (Some LinkFailed) e right = last e
     ends (Some (GatewayRefused three)) e right = never_refused three (told.tries three e) right
     ends (Some (WrongLine device tunnel)) e right = none_wrong jobs record_now device tunnel on_its_line right
 

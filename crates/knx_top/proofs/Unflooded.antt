@@ -1,5 +1,5 @@
 -- A run that nothing disturbs and whose group telegrams ask for no values isn't flooded: its jobs and its telegrams bring fewer datagrams.
-use Rattle.std.proofs.Common.{◌≡◌, ◌≢◌, ◌⊎◌, ℕ, zero, suc, ◌+◌, ◌*◌, ◌/◌, ◌-◌, ◌≤◌, Bool, true, false, List, [], ◌∷◌, length, slice_get, Option, Some, None, sym, ap, subst, ◌∙◌, inl, inr, arith}
+use Rattle.std.proofs.Common.{ℕ, ◌≤◌, List, [], ◌∷◌, length, sym, ap, subst, ◌∙◌, arith}
 use Rattle.bus_sim.specs.RunNow.{RunNow, start}
 use Rattle.call_words.specs.declared.job_word.JobKind.{JobKind}
 use Rattle.call_words.specs.declared.job_word.JobKind.TheVariants.{Load, Check}
@@ -12,10 +12,10 @@ use Rattle.knx_model.specs.Meaning.{Installation, meaning}
 use Rattle.knx_model.specs.Plans.{Plan, Over, Asks}
 use Rattle.line_model.specs.declared.log.LogEntry.{LogEntry}
 use Rattle.line_model.specs.declared.group.GroupTurn.{GroupTurn}
-use Rattle.line_model.specs.Faults.{IsFlooded, flood}
-use Rattle.line_model.specs.Leaves.{IsFinished, LeavesRightly, StaysOpen}
-use Rattle.line_model.specs.Log.{Job, job_of, state_of}
-use Rattle.line_model.specs.Record.{entries, placed, record_of}
+use Rattle.line_model.specs.Faults.{IsFlooded}
+use Rattle.line_model.specs.Leaves.{LeavesRightly, StaysOpen}
+use Rattle.line_model.specs.Log.{Job}
+use Rattle.line_model.specs.Record.{placed, record_of}
 use Rattle.line_model.proofs.Entries.{entries_placed}
 use Rattle.table_compiler.proofs.Lengths.{length-object_list}
 use Rattle.table_compiler.specs.Images.{IsImage}

@@ -14,7 +14,7 @@ ghost use Rattle.call_parts.specs.Ending.{report_in};
 ghost use Rattle.call_parts.specs.Jobs.{seen_job};
 ghost use Rattle.call_parts.specs.Names.{options_of};
 ghost use Rattle.call_parts.specs.Stops.{project_in};
-ghost use Rattle.knx_top.specs.Ran.{Commission, FaultsOfLine, HasThreeTries};
+ghost use Rattle.knx_top.specs.Ran.{Commission, FaultsOfLine};
 ghost use Rattle.knx_top.specs.Watched.{TellsTested, TellsWatcher, WhereRun};
 ghost use Rattle.line_model.specs.Watched.{watch_in};
 ghost use Rattle.knx_top.specs.commands.Sim.{Comes, Runs, ShowsRun, judged, sim_tests, sim_words_of};
@@ -47,8 +47,7 @@ fn end_of_run(
     log: bool,
 ) -> End
     requires { All (λ (d : Address × Option Compiled). IsSome ((world line.now.run).devices d.0.raw)) devices.now }
-    ensures shows { ShowsRun line.now.run report jobs turns devices.now log result }
-    ensures tries { HasThreeTries report.fault }
+    ensures { ShowsRun line.now.run report jobs turns devices.now log result }
 {
     match all_shown(alloc, line, devices) {
         Ok(devices) => End::Reports(Reported {

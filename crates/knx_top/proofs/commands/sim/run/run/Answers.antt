@@ -50,9 +50,9 @@ returns-clause-runs g c = λ commission is options.
     } in
     runs_so commission c.args.sim.now line report c.args.order.jobs c.len-turn_count.result c.args.order.devices log c.end_of_run.result
     (driven laws commission c.args.order workers c.args.order.turns line (length line.run.events) report is (c.count.ensures.value ∙ c.workers.ensures ∙ ap (λ (o : asked.SimOptions). asked.workers_of o) (sym options) ∙ sym is.workers) (is.prepared.turns ∙ sym is.turns) c.requires.one c.commission-line.ensures.commissioned.grows c.commission-line.ensures.commissioned.script c.keeps-2.ensures.fresh c.keeps-2.ensures.legal c.keeps-2.ensures.follows c.requires.good c.commission-line.ensures.commissioned.tells
-    c.end_of_run.ensures.tries cause)
+    c.commission-line.ensures.tries cause)
     is.prepared.devices (c.len-turn_count.ensures ∙ ap (λ (ts : List GroupTurn). length ts) (is.prepared.turns ∙ sym is.turns)) (ap (λ (o : asked.SimOptions). o.log) (sym options))
-    (subst (λ (devices : List (IndAddr × Option Image)). ShowsRun line.run report c.args.order.jobs c.len-turn_count.result devices log c.end_of_run.result) c.as_slice.ensures c.end_of_run.ensures.shows)
+    (subst (λ (devices : List (IndAddr × Option Image)). ShowsRun line.run report c.args.order.jobs c.len-turn_count.result devices log c.end_of_run.result) c.as_slice.ensures c.end_of_run.ensures)
 
 pub returns-clause-link : goal.returns-clause-link
 returns-clause-link g c =
@@ -60,7 +60,7 @@ returns-clause-link g c =
     let report = c.commission-line.result.1 in
     let cause : FaultsOfLine (Some report) line = faults_last report.fault line (still_one c.args.order.line.run line.run c.requires.one c.commission-line.ensures.commissioned.grows) c.keeps-2.ensures.faults
     (subst (λ (before : ℕ). IfSome report.fault (λ fault. FailsWhere fault before line.faults)) c.requires.sound c.commission-line.ensures.commissioned.cause) in
-    fault_so line.run report c.args.order.jobs c.len-turn_count.result c.as_slice.result.now c.args.options.now.log c.end_of_run.result line c.end_of_run.ensures.shows cause
+    fault_so line.run report c.args.order.jobs c.len-turn_count.result c.as_slice.result.now c.args.options.now.log c.end_of_run.result line c.end_of_run.ensures cause
 
 pub returns-clause-watched : goal.returns-clause-watched
-returns-clause-watched g c = tells_shown c.commission-line.result.0.run c.commission-line.result.1 c.args.order.jobs c.len-turn_count.result c.as_slice.result.now c.args.options.now.log (TellsWatcher (devices_in c.args.order.plans) c.args.options.now.quiet) _ _ c.end_of_run.result c.end_of_run.ensures.shows c.commission-line.ensures.watched
+returns-clause-watched g c = tells_shown c.commission-line.result.0.run c.commission-line.result.1 c.args.order.jobs c.len-turn_count.result c.as_slice.result.now c.args.options.now.log (TellsWatcher (devices_in c.args.order.plans) c.args.options.now.quiet) _ _ c.end_of_run.result c.end_of_run.ensures c.commission-line.ensures.watched
