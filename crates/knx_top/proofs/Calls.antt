@@ -1,11 +1,9 @@
--- A whole call: what its command does and what is written of its end come to each clause of `knx`.
-use Rattle.std.proofs.Common.{◌≡◌, true, false, List, Option, Some, None, ◌⊎◌, sym, subst, ℕ}
+-- A whole call: what its command does, with what is written of its end; and what follows of that.
+use Rattle.std.proofs.Common.{◌≡◌, true, false, Option, Some, None, ◌⊎◌}
 use Rattle.knx_top.specs.Call.{AtMostOneRose, Does, Outside, left_in, touches}
 use Rattle.knx_top.specs.Command.{Assign, AssignSim, Big, Check, Command, Decode, Find, Gateway, Migrate, Sim, Tables, Download}
 use Rattle.call_parts.specs.declared.ending.End.{End}
-use Rattle.knx_top.specs.Ran.{FaultsOfLine}
 use Rattle.call_parts.specs.Ending.{Is, wanting}
-use Rattle.line_model.specs.declared.log.Report.{Report}
 use Rattle.call_parts.specs.Input.{failed}
 use Rattle.knx_top.proofs.commands.Assigns.{assign_sim_written, assign_written}
 use Rattle.knx_top.proofs.commands.Bigs.{made_written}
@@ -15,19 +13,13 @@ use Rattle.knx_top.proofs.commands.Finds.{find_written}
 use Rattle.knx_top.proofs.commands.Gateways.{gateway_written}
 use Rattle.call_parts.proofs.Projects.{project_written}
 use Rattle.knx_top.proofs.commands.Sims.{script_written}
-use Rattle.call_words.specs.declared.stop.Stop.TheVariants as stop
-use Rattle.call_parts.specs.declared.ending.End.TheVariants as ends
-use Rattle.knx_top.specs.commands.Assign.{AssignSimWords, AssignWords, RunsAssign, RunsAssignSim}
-use Rattle.knx_top.specs.commands.Big.{BigWords, RunsMade}
 use Rattle.knx_top.specs.commands.Check.{IsCountsText}
 use Rattle.knx_top.specs.commands.Migrate.{IsMigratedText}
 use Rattle.knx_top.specs.commands.Tables.{IsTablesText}
-use Rattle.knx_top.specs.commands.Sim.{RunsScript, SimWords, failed_of_sim}
-use Rattle.knx_top.specs.commands.Decode.{TellsOfFrame}
-use Rattle.call_parts.specs.Project.{TellsOfProject, ProjectWords, failed_of_project}
-use Rattle.knx_top.specs.commands.Download.{DownloadWords, RunsDialled, project_named}
-use Rattle.knx_top.specs.commands.Find.{FindWords, RunsFind}
-use Rattle.knx_top.specs.commands.Gateway.{GatewayWords, RunsGateway, failed_of_gateway}
+use Rattle.knx_top.specs.commands.Sim.{failed_of_sim}
+use Rattle.call_parts.specs.Project.{failed_of_project}
+use Rattle.knx_top.specs.commands.Download.{project_named}
+use Rattle.knx_top.specs.commands.Gateway.{failed_of_gateway}
 
 -- ---- what was done, and then written
 
@@ -44,61 +36,7 @@ written (Assign words) before after end Replied does replied = (assign_written w
 written (AssignSim words) before after end Replied does replied = (assign_sim_written words before.files after.files before.units after.units end Replied does.0 replied, does.1)
 written (Big words) before after end Replied does replied = (made_written words before.line (left_in after) end Replied does.0 replied, does.1, does.2)
 
--- ---- each clause of the whole call
-
-pub usage_of : (command : Option Command) (before after : Outside) (Replied : End → Type 0) → Does command before after Replied → command ≡ None → Replied (ends.Stops stop.Usage)
-usage_of command before after Replied does e = (subst (λ (o : Option Command). Does o before after Replied) e does).0
-
-pub check_of : (command : Option Command) (before after : Outside) (Replied : End → Type 0) (words : ProjectWords) → Does command before after Replied → command ≡ Some (Check words) → TellsOfProject IsCountsText words before.files after.files Replied
-check_of command before after Replied words does e = (subst (λ (o : Option Command). Does o before after Replied) e does).0
-
-pub tables_of : (command : Option Command) (before after : Outside) (Replied : End → Type 0) (words : ProjectWords) → Does command before after Replied → command ≡ Some (Tables words) → TellsOfProject IsTablesText words before.files after.files Replied
-tables_of command before after Replied words does e = (subst (λ (o : Option Command). Does o before after Replied) e does).0
-
-pub migrate_of : (command : Option Command) (before after : Outside) (Replied : End → Type 0) (words : ProjectWords) → Does command before after Replied → command ≡ Some (Migrate words) → TellsOfProject IsMigratedText words before.files after.files Replied
-migrate_of command before after Replied words does e = (subst (λ (o : Option Command). Does o before after Replied) e does).0
-
-pub decode_of : (command : Option Command) (before after : Outside) (Replied : End → Type 0) (word : List ℕ) → Does command before after Replied → command ≡ Some (Decode word) → TellsOfFrame word Replied
-decode_of command before after Replied word does e = (subst (λ (o : Option Command). Does o before after Replied) e does).0
-
-pub sim_of : (command : Option Command) (before after : Outside) (Replied : End → Type 0) (words : SimWords) → Does command before after Replied → command ≡ Some (Sim words) → RunsScript words before.files after.files before.line (left_in after) Replied
-sim_of command before after Replied words does e = (subst (λ (o : Option Command). Does o before after Replied) e does).0
-
--- a run over the simulated line
-pub link_of : (command : Option Command) (before after : Outside) (Replied : End → Type 0) → Does command before after Replied → (touches command).line ≡ true → FaultsOfLine after.report after.line
-link_of None before after Replied does touched = absurd (let e : false ≡ true = touched in cc)
-link_of (Some (Check words)) before after Replied does touched = absurd (let e : false ≡ true = touched in cc)
-link_of (Some (Tables words)) before after Replied does touched = absurd (let e : false ≡ true = touched in cc)
-link_of (Some (Migrate words)) before after Replied does touched = absurd (let e : false ≡ true = touched in cc)
-link_of (Some (Sim words)) before after Replied does touched = does.1
-link_of (Some (Decode word)) before after Replied does touched = absurd (let e : false ≡ true = touched in cc)
-link_of (Some (Download words)) before after Replied does touched = absurd (let e : false ≡ true = touched in cc)
-link_of (Some (Gateway words)) before after Replied does touched = subst (λ (report : Option Report). FaultsOfLine report after.line) (sym does.1) tt
-link_of (Some (Find words)) before after Replied does touched = absurd (let e : false ≡ true = touched in cc)
-link_of (Some (Assign words)) before after Replied does touched = absurd (let e : false ≡ true = touched in cc)
-link_of (Some (AssignSim words)) before after Replied does touched = absurd (let e : false ≡ true = touched in cc)
-link_of (Some (Big words)) before after Replied does touched = does.2
-
-pub download_of : (command : Option Command) (before after : Outside) (Replied : End → Type 0) (words : DownloadWords) → Does command before after Replied → command ≡ Some (Download words)
-    → RunsDialled words before.files after.files before.dialer after.dialer after.report Replied
-download_of command before after Replied words does e = (subst (λ (o : Option Command). Does o before after Replied) e does).0
-
-pub gateway_of : (command : Option Command) (before after : Outside) (Replied : End → Type 0) (words : GatewayWords) → Does command before after Replied → command ≡ Some (Gateway words)
-    → RunsGateway words before.files after.files before.dialer after.dialer before.line after.line Replied
-gateway_of command before after Replied words does e = (subst (λ (o : Option Command). Does o before after Replied) e does).0
-
-pub find_of : (command : Option Command) (before after : Outside) (Replied : End → Type 0) (words : FindWords) → Does command before after Replied → command ≡ Some (Find words) → RunsFind words before.dialer after.dialer Replied
-find_of command before after Replied words does e = (subst (λ (o : Option Command). Does o before after Replied) e does).0
-
-pub assign_of : (command : Option Command) (before after : Outside) (Replied : End → Type 0) (words : AssignWords) → Does command before after Replied → command ≡ Some (Assign words) → RunsAssign words before.dialer after.dialer Replied
-assign_of command before after Replied words does e = (subst (λ (o : Option Command). Does o before after Replied) e does).0
-
-pub assign_sim_of : (command : Option Command) (before after : Outside) (Replied : End → Type 0) (words : AssignSimWords) → Does command before after Replied → command ≡ Some (AssignSim words)
-    → RunsAssignSim words before.files after.files before.units after.units Replied
-assign_sim_of command before after Replied words does e = (subst (λ (o : Option Command). Does o before after Replied) e does).0
-
-pub big_of : (command : Option Command) (before after : Outside) (Replied : End → Type 0) (words : BigWords) → Does command before after Replied → command ≡ Some (Big words) → RunsMade words before.line (left_in after) Replied
-big_of command before after Replied words does e = (subst (λ (o : Option Command). Does o before after Replied) e does).0
+-- ---- what follows of the whole call
 
 -- what a command doesn't touch
 pub line_of : (command : Option Command) (before after : Outside) (Replied : End → Type 0) → Does command before after Replied → (touches command).line ≡ false → after.line ≡ before.line
