@@ -57,48 +57,6 @@ fn run<R: Threads + Wait + Sync, F: Files, D: Dialer, G: Gate + Sync, W: Watcher
     }
 }
 
-/// What the words ask for is done, and its end is written, where no run was begun yet.
-fn answer<
-    R: Threads + Wait + Sync,
-    F: Files,
-    K: Sink,
-    D: Dialer,
-    G: Gate + Sync,
-    W: Watcher + Send,
->(
-    rt: &R,
-    alloc: Global,
-    words: &[String],
-    files: &mut F,
-    out: &mut K,
-    sim: &mut SimBus,
-    units: &mut AddressBus,
-    dial: &mut D,
-    gate: &G,
-    watch: &mut Option<W>,
-    last: &mut Option<Report>,
-) -> Status
-    requires { last.old ≡ None }
-    ensures does { Does (asked (map string_bytes words.now)) (record { files = F.now files.old; line = sim.old; units = units.old; dialer = D.now dial.old; report = None }) (record { files = F.now files.new; line = sim.new; units = units.new; dialer = D.now dial.new; report = last.new }) (Replies (K.now out.old) (K.now out.new) result) }
-    ensures undialled { (touches (asked (map string_bytes words.now))).network ≡ false → dial.new ≡ dial.old }
-    ensures units { touches_units (asked (map string_bytes words.now)) ≡ false → units.new ≡ units.old }
-    ensures stays { (other : List ℕ) → (F.now files.new).file other ≡ (F.now files.old).file other }
-    ensures reads { (F.now files.new).reads ≤ (F.now files.old).reads + length (files_of (asked (map string_bytes words.now))) }
-    ensures written { (K.now out.new).writes ≡ one_more (K.now out.old).writes }
-    ensures unwatched { (touches (asked (map string_bytes words.now))).run ≡ false → watch.new ≡ watch.old }
-    ensures watched { (touches (asked (map string_bytes words.now))).run ≡ true → WhereRun (TellsOfRun (asked (map string_bytes words.now)) (F.now files.old).file) last.new (watch_in W.watch watch.old) (watch_in W.watch watch.new) }
-{
-    match asked(words) {
-        Some(command) => {
-            let end = run(rt, alloc, command, files, sim, units, dial, gate, watch);
-            let status = tell_end(alloc, out, &end);
-            *last = end.report();
-            status
-        }
-        None => tell(out, USAGE, Status::Usage),
-    }
-}
-
 /// All that the program does: it reads the words, reads the files, begins and ends the run, and writes the text. The status is
 /// the program's exit status. `last` becomes the report of the run, and None where no run began. A link that it dialled or a port that it bound is handed back to the dialer. The downloaders are threads of `rt`, and each
 /// passes `gate` between taking a job and starting it. Where somebody watches, he is told of a run while it goes on.
@@ -139,7 +97,13 @@ pub fn knx<
     ensures written { (K.now out.new).writes ≡ one_more (K.now out.old).writes }
 {
     *last = None;
-    answer(
-        rt, alloc, words, files, out, sim, units, dial, gate, watch, last,
-    )
+    match asked(words) {
+        Some(command) => {
+            let end = run(rt, alloc, command, files, sim, units, dial, gate, watch);
+            let status = tell_end(alloc, out, &end);
+            *last = end.report();
+            status
+        }
+        None => tell(out, USAGE, Status::Usage),
+    }
 }

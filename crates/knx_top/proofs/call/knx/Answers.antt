@@ -1,17 +1,39 @@
-use Rattle.knx_top.proofs.Calls.{line_of, no_run_of, faults_in}
-use Rattle.knx_top.proofs.Watches.{watches_of}
+use Rattle.std.proofs.Common.{None, Some, ap, refl, sym}
 use Rattle.line_model.specs.Watched.{watch_in}
-use Rattle.std.proofs.Common.{ap}
+use Rattle.knx_top.specs.Command.{command_of}
+use Rattle.knx_top.proofs.Calls.{faults_in, line_of, no_run_of, written}
+use Rattle.knx_top.proofs.Watches.{watches_of}
 use Rattle.knx_top.proofs.call.knx.Goals as goal
 
-pub returns-clause-line : goal.returns-clause-line
-returns-clause-line g c = line_of _ _ _ _ c.answer.ensures.does
+-- ---- a command
 
-pub returns-clause-no_run : goal.returns-clause-no_run
-returns-clause-no_run g c = no_run_of _ _ _ _ c.answer.ensures.does
+pub returns-in-Some-clause-does : goal.returns-in-Some-clause-does
+returns-in-Some-clause-does g c = rw (sym c.in-Some.ensures, c.report.ensures) (written (command_of c.in-Some.command) _ _ c.run-end.result _ c.run-end.ensures.does c.tell_end-status.ensures.told)
 
-pub returns-clause-faults : goal.returns-clause-faults
-returns-clause-faults g c = faults_in _ _ _ _ c.answer.ensures.does
+pub returns-in-Some-clause-line : goal.returns-in-Some-clause-line
+returns-in-Some-clause-line g c = line_of _ _ _ _ (returns-in-Some-clause-does g c)
 
-pub returns-clause-watched : goal.returns-clause-watched
-returns-clause-watched g c = watches_of _ (g.F.Files.now c.args.files.now).file _ _ _ (no_run_of _ _ _ _ c.answer.ensures.does) (λ none. ap (watch_in g.W.Watcher.watch) (c.answer.ensures.unwatched none)) c.answer.ensures.watched
+pub returns-in-Some-clause-no_run : goal.returns-in-Some-clause-no_run
+returns-in-Some-clause-no_run g c = no_run_of _ _ _ _ (returns-in-Some-clause-does g c)
+
+pub returns-in-Some-clause-faults : goal.returns-in-Some-clause-faults
+returns-in-Some-clause-faults g c = faults_in _ _ _ _ (returns-in-Some-clause-does g c)
+
+pub returns-in-Some-clause-undialled : goal.returns-in-Some-clause-undialled
+returns-in-Some-clause-undialled g c = rw (sym c.in-Some.ensures) c.run-end.ensures.undialled
+
+pub returns-in-Some-clause-units : goal.returns-in-Some-clause-units
+returns-in-Some-clause-units g c = rw (sym c.in-Some.ensures) c.run-end.ensures.units
+
+pub returns-in-Some-clause-watched : goal.returns-in-Some-clause-watched
+returns-in-Some-clause-watched g c = rw (sym c.in-Some.ensures, c.report.ensures)
+    (watches_of (Some (command_of c.in-Some.command)) (g.F.Files.now c.args.files.now).file _ _ _ (no_run_of (Some (command_of c.in-Some.command)) _ _ _ c.run-end.ensures.does)
+    (λ none. ap (watch_in g.W.Watcher.watch) (c.run-end.ensures.unwatched none)) c.run-end.ensures.watched)
+
+-- ---- other words
+
+pub returns-in-None-clause-does : goal.returns-in-None-clause-does
+returns-in-None-clause-does g c = rw (sym c.in-None.ensures) (c.tell.ensures.told, (λ _. refl), record { line = refl; report = refl })
+
+pub returns-in-None-clause-faults : goal.returns-in-None-clause-faults
+returns-in-None-clause-faults g c = (None, λ _. refl)
