@@ -138,14 +138,6 @@ pub record Ran (c : Commission) (r : RunNow) (report : Report) (words : List Job
   -- earlier job loads its device or its device began with the new image, and each group telegram sent.
   pub undisturbed : IsUndisturbed c.project c.before c.script jobs → NothingFails jobs c.turns r (log_in report) report.fault
 
--- P holds of the jobs of the run: those that the words name, or a load of each device, with the plans of the new project's compiled images
-pub record OfItsJobs (c : Commission) (P : List Job → Type 0) : Type 0 where
-  pub words : List JobWord
-  pub are : AreJobs c.options.jobs c.project words
-  pub jobs : List Job
-  pub planned : ArePlanned c.project jobs words
-  pub holds : P jobs
-
 -- ---- what a call leaves of it
 
 -- what a call leaves: the simulated line, and the report of the run, where the call began one
