@@ -1,27 +1,15 @@
 //! How the program ends.
 
-ghost use Rattle.std.specs.Prelude.{◌≡◌, ◌≤◌, ◌+◌, ℕ, IfErr, IfOk, List, None, Some, false, length, map, string_bytes, true};
-ghost use Rattle.call_words.specs.declared.stop.Stop.TheVariants.{Usage, NoMemory as Wanting};
+ghost use Rattle.std.specs.Prelude.{◌≡◌, ◌≤◌, ◌+◌, ℕ, IfErr, IfOk, List, None, false, length, map, string_bytes};
+ghost use Rattle.call_words.specs.declared.stop.Stop.TheVariants.{NoMemory as Wanting};
 ghost use Rattle.knx_model.specs.Outside.{one_more};
 ghost use Rattle.call_words.specs.Statuses.{status_number};
 ghost use Rattle.call_parts.specs.declared.ending.End.TheVariants.{Stops};
-ghost use Rattle.knx_top.specs.Call.{AtMostOneRose, RunsRightly, files_of, touches, touches_units};
-ghost use Rattle.knx_top.specs.Command.{asked, Assign as AskedAssign, AssignSim as AskedAssignSim, Big as AskedBig, Check as AskedCheck, Decode as AskedDecode, Download as AskedDownload, Find as AskedFind, Gateway as AskedGateway, Migrate as AskedMigrate, Sim as AskedSim, Tables as AskedTables};
+ghost use Rattle.knx_top.specs.Call.{AtMostOneRose, Does, files_of, touches, touches_units};
+ghost use Rattle.knx_top.specs.Command.{asked};
 ghost use Rattle.call_parts.specs.Ending.{Replies};
-ghost use Rattle.knx_top.specs.Ran.{FaultsOfLine};
 ghost use Rattle.knx_top.specs.Watched.{TellsOfRun, WhereRun};
 ghost use Rattle.line_model.specs.Watched.{watch_in};
-ghost use Rattle.knx_top.specs.commands.Assign.{AssignSimWords, AssignWords, RunsAssign, RunsAssignSim};
-ghost use Rattle.knx_top.specs.commands.Big.{BigWords, RunsMade};
-ghost use Rattle.knx_top.specs.commands.Check.{IsCountsText};
-ghost use Rattle.knx_top.specs.commands.Decode.{TellsOfFrame};
-ghost use Rattle.knx_top.specs.commands.Download.{DownloadWords, RunsDialled};
-ghost use Rattle.knx_top.specs.commands.Find.{FindWords, RunsFind};
-ghost use Rattle.knx_top.specs.commands.Gateway.{GatewayWords, RunsGateway};
-ghost use Rattle.call_parts.specs.Project.{ProjectWords, TellsOfProject};
-ghost use Rattle.knx_top.specs.commands.Sim.{RunsScript, SimWords};
-ghost use Rattle.knx_top.specs.commands.Migrate.{IsMigratedText};
-ghost use Rattle.knx_top.specs.commands.Tables.{IsTablesText};
 ghost use Rattle.knx_cli.specs.Exit.{status_of};
 
 use call_words::Status;
@@ -66,20 +54,8 @@ pub fn status_of<
     last: &mut Option<Report>,
 ) -> u8
     ensures numbered { result ≡ status_number (status_of result) }
-    ensures usage { IfOk words.now (λ words. asked (map string_bytes words.items) ≡ None → Replies (K.now out.old) (K.now out.new) (status_of result) (Stops Usage)) }
-    ensures check { IfOk words.now (λ words. (names : ProjectWords) → asked (map string_bytes words.items) ≡ Some (AskedCheck names) → TellsOfProject IsCountsText names (F.now files.old) (F.now files.new) (Replies (K.now out.old) (K.now out.new) (status_of result))) }
-    ensures tables { IfOk words.now (λ words. (names : ProjectWords) → asked (map string_bytes words.items) ≡ Some (AskedTables names) → TellsOfProject IsTablesText names (F.now files.old) (F.now files.new) (Replies (K.now out.old) (K.now out.new) (status_of result))) }
-    ensures migrate { IfOk words.now (λ words. (names : ProjectWords) → asked (map string_bytes words.items) ≡ Some (AskedMigrate names) → TellsOfProject IsMigratedText names (F.now files.old) (F.now files.new) (Replies (K.now out.old) (K.now out.new) (status_of result))) }
-    ensures decode { IfOk words.now (λ words. (word : List ℕ) → asked (map string_bytes words.items) ≡ Some (AskedDecode word) → TellsOfFrame word (Replies (K.now out.old) (K.now out.new) (status_of result))) }
-    ensures sim { IfOk words.now (λ words. (names : SimWords) → asked (map string_bytes words.items) ≡ Some (AskedSim names) → RunsScript names (F.now files.old) (F.now files.new) sim.old (record { line = sim.new; report = last.new }) (Replies (K.now out.old) (K.now out.new) (status_of result))) }
-    ensures download { IfOk words.now (λ words. (names : DownloadWords) → asked (map string_bytes words.items) ≡ Some (AskedDownload names) → RunsDialled names (F.now files.old) (F.now files.new) (D.now dial.old) (D.now dial.new) last.new (Replies (K.now out.old) (K.now out.new) (status_of result))) }
-    ensures gateway { IfOk words.now (λ words. (names : GatewayWords) → asked (map string_bytes words.items) ≡ Some (AskedGateway names) → RunsGateway names (F.now files.old) (F.now files.new) (D.now dial.old) (D.now dial.new) sim.old sim.new (Replies (K.now out.old) (K.now out.new) (status_of result))) }
-    ensures find { IfOk words.now (λ words. (names : FindWords) → asked (map string_bytes words.items) ≡ Some (AskedFind names) → RunsFind names (D.now dial.old) (D.now dial.new) (Replies (K.now out.old) (K.now out.new) (status_of result))) }
-    ensures assign { IfOk words.now (λ words. (names : AssignWords) → asked (map string_bytes words.items) ≡ Some (AskedAssign names) → RunsAssign names (D.now dial.old) (D.now dial.new) (Replies (K.now out.old) (K.now out.new) (status_of result))) }
-    ensures assign_sim { IfOk words.now (λ words. (names : AssignSimWords) → asked (map string_bytes words.items) ≡ Some (AskedAssignSim names) → RunsAssignSim names (F.now files.old) (F.now files.new) units.old units.new (Replies (K.now out.old) (K.now out.new) (status_of result))) }
-    ensures big { IfOk words.now (λ words. (names : BigWords) → asked (map string_bytes words.items) ≡ Some (AskedBig names) → RunsMade names sim.old (record { line = sim.new; report = last.new }) (Replies (K.now out.old) (K.now out.new) (status_of result))) }
-    ensures run { IfOk words.now (λ words. RunsRightly (status_of result) (map string_bytes words.items) (F.now files.old) sim.old (record { line = sim.new; report = last.new })) }
-    ensures link { IfOk words.now (λ words. (touches (asked (map string_bytes words.items))).line ≡ true → FaultsOfLine last.new sim.new) }
+    // what the command of the words does, row by row of `Does`
+    ensures does { IfOk words.now (λ words. Does (asked (map string_bytes words.items)) (record { files = F.now files.old; line = sim.old; units = units.old; dialer = D.now dial.old; report = None }) (record { files = F.now files.new; line = sim.new; units = units.new; dialer = D.now dial.new; report = last.new }) (Replies (K.now out.old) (K.now out.new) (status_of result))) }
     ensures line { IfOk words.now (λ words. (touches (asked (map string_bytes words.items))).line ≡ false → sim.new ≡ sim.old) }
     ensures undialled { IfOk words.now (λ words. (touches (asked (map string_bytes words.items))).network ≡ false → dial.new ≡ dial.old) }
     ensures units { IfOk words.now (λ words. touches_units (asked (map string_bytes words.items)) ≡ false → units.new ≡ units.old) }

@@ -1,44 +1,25 @@
--- A whole call: what its command does and what is written of its end come to each clause of `knx`.
-use Rattle.std.proofs.Common.{◌≡◌, true, false, List, Option, Some, None, ◌⊎◌, refl, sym, ◌∙◌, subst, ℕ}
-use Rattle.std.specs.Prelude.{IfSome}
-use Rattle.knx_top.specs.Call.{AtMostOneRose, AtPort, Does, Elsewhere, HasRun, HasRunMade, NoRun, Outside, RunsRightly, left_in, touches}
-use Rattle.bus_sim.specs.Loaded.{BusNow}
-use Rattle.knx_top.specs.Command.{Assign, AssignSim, Big, Check, Command, Decode, Find, Gateway, Migrate, Sim, Tables, asked, Download}
+-- A whole call: what its command does, with what is written of its end; and what follows of that.
+use Rattle.std.proofs.Common.{◌≡◌, true, false, Option, Some, None, ◌⊎◌}
+use Rattle.knx_top.specs.Call.{AtMostOneRose, Does, Outside, left_in, touches}
+use Rattle.knx_top.specs.Command.{Assign, AssignSim, Big, Check, Command, Decode, Find, Gateway, Migrate, Sim, Tables, Download}
 use Rattle.call_parts.specs.declared.ending.End.{End}
-use Rattle.knx_top.specs.Headline.{KeepsHeadline}
-use Rattle.knx_top.specs.Ran.{FaultsOfLine, Ran, Left, Commission}
-use Rattle.knx_model.specs.Counts.{counts_of}
-use Rattle.knx_model.specs.Outside.{FilesNow}
-use Rattle.call_parts.specs.Ending.{Is, report_in, wanting}
-use Rattle.call_words.specs.declared.job_word.JobWord.{JobWord}
-use Rattle.call_words.specs.declared.status.Status.{Status}
-use Rattle.line_model.specs.declared.log.Report.{Report}
-use Rattle.bus_sim.specs.RunNow.{RunNow}
-use Rattle.call_parts.specs.Input.{failed, first_some}
-use Rattle.knx_top.specs.declared.commands.sim.SimTexts.{SimTexts}
-use Rattle.call_words.specs.declared.stop.Stop.{Stop}
+use Rattle.call_parts.specs.Ending.{Is, wanting}
+use Rattle.call_parts.specs.Input.{failed}
 use Rattle.knx_top.proofs.commands.Assigns.{assign_sim_written, assign_written}
-use Rattle.knx_top.proofs.commands.Bigs.{made_written, report_summed}
+use Rattle.knx_top.proofs.commands.Bigs.{made_written}
 use Rattle.knx_top.proofs.commands.Downloads.{dialled_written}
 use Rattle.knx_top.proofs.commands.Decodes.{frame_written}
 use Rattle.knx_top.proofs.commands.Finds.{find_written}
 use Rattle.knx_top.proofs.commands.Gateways.{gateway_written}
 use Rattle.call_parts.proofs.Projects.{project_written}
 use Rattle.knx_top.proofs.commands.Sims.{script_written}
-use Rattle.call_parts.proofs.Ends.{stopped_report}
-use Rattle.call_words.specs.declared.stop.Stop.TheVariants as stop
-use Rattle.call_parts.specs.declared.ending.End.TheVariants as ends
-use Rattle.knx_top.specs.commands.Assign.{AssignSimWords, AssignWords, RunsAssign, RunsAssignSim}
-use Rattle.knx_top.specs.commands.Big.{BigWords, RunsMade, commission_made, made, summed}
 use Rattle.knx_top.specs.commands.Check.{IsCountsText}
 use Rattle.knx_top.specs.commands.Migrate.{IsMigratedText}
 use Rattle.knx_top.specs.commands.Tables.{IsTablesText}
-use Rattle.knx_top.specs.commands.Sim.{RunsScript, SimWords, commission_told, sim_tests, Runs, SimIsRead, failed_of_sim}
-use Rattle.knx_top.specs.commands.Decode.{TellsOfFrame}
-use Rattle.call_parts.specs.Project.{TellsOfProject, ProjectWords, failed_of_project}
-use Rattle.knx_top.specs.commands.Download.{DownloadWords, RunsDialled, project_named}
-use Rattle.knx_top.specs.commands.Find.{FindWords, RunsFind}
-use Rattle.knx_top.specs.commands.Gateway.{GatewayWords, RunsGateway, failed_of_gateway}
+use Rattle.knx_top.specs.commands.Sim.{failed_of_sim}
+use Rattle.call_parts.specs.Project.{failed_of_project}
+use Rattle.knx_top.specs.commands.Download.{project_named}
+use Rattle.knx_top.specs.commands.Gateway.{failed_of_gateway}
 
 -- ---- what was done, and then written
 
@@ -55,61 +36,7 @@ written (Assign words) before after end Replied does replied = (assign_written w
 written (AssignSim words) before after end Replied does replied = (assign_sim_written words before.files after.files before.units after.units end Replied does.0 replied, does.1)
 written (Big words) before after end Replied does replied = (made_written words before.line (left_in after) end Replied does.0 replied, does.1, does.2)
 
--- ---- each clause of the whole call
-
-pub usage_of : (command : Option Command) (before after : Outside) (Replied : End → Type 0) → Does command before after Replied → command ≡ None → Replied (ends.Stops stop.Usage)
-usage_of command before after Replied does e = (subst (λ (o : Option Command). Does o before after Replied) e does).0
-
-pub check_of : (command : Option Command) (before after : Outside) (Replied : End → Type 0) (words : ProjectWords) → Does command before after Replied → command ≡ Some (Check words) → TellsOfProject IsCountsText words before.files after.files Replied
-check_of command before after Replied words does e = (subst (λ (o : Option Command). Does o before after Replied) e does).0
-
-pub tables_of : (command : Option Command) (before after : Outside) (Replied : End → Type 0) (words : ProjectWords) → Does command before after Replied → command ≡ Some (Tables words) → TellsOfProject IsTablesText words before.files after.files Replied
-tables_of command before after Replied words does e = (subst (λ (o : Option Command). Does o before after Replied) e does).0
-
-pub migrate_of : (command : Option Command) (before after : Outside) (Replied : End → Type 0) (words : ProjectWords) → Does command before after Replied → command ≡ Some (Migrate words) → TellsOfProject IsMigratedText words before.files after.files Replied
-migrate_of command before after Replied words does e = (subst (λ (o : Option Command). Does o before after Replied) e does).0
-
-pub decode_of : (command : Option Command) (before after : Outside) (Replied : End → Type 0) (word : List ℕ) → Does command before after Replied → command ≡ Some (Decode word) → TellsOfFrame word Replied
-decode_of command before after Replied word does e = (subst (λ (o : Option Command). Does o before after Replied) e does).0
-
-pub sim_of : (command : Option Command) (before after : Outside) (Replied : End → Type 0) (words : SimWords) → Does command before after Replied → command ≡ Some (Sim words) → RunsScript words before.files after.files before.line (left_in after) Replied
-sim_of command before after Replied words does e = (subst (λ (o : Option Command). Does o before after Replied) e does).0
-
--- a run over the simulated line
-pub link_of : (command : Option Command) (before after : Outside) (Replied : End → Type 0) → Does command before after Replied → (touches command).line ≡ true → FaultsOfLine after.report after.line
-link_of None before after Replied does touched = absurd (let e : false ≡ true = touched in cc)
-link_of (Some (Check words)) before after Replied does touched = absurd (let e : false ≡ true = touched in cc)
-link_of (Some (Tables words)) before after Replied does touched = absurd (let e : false ≡ true = touched in cc)
-link_of (Some (Migrate words)) before after Replied does touched = absurd (let e : false ≡ true = touched in cc)
-link_of (Some (Sim words)) before after Replied does touched = does.1
-link_of (Some (Decode word)) before after Replied does touched = absurd (let e : false ≡ true = touched in cc)
-link_of (Some (Download words)) before after Replied does touched = absurd (let e : false ≡ true = touched in cc)
-link_of (Some (Gateway words)) before after Replied does touched = subst (λ (report : Option Report). FaultsOfLine report after.line) (sym does.1) tt
-link_of (Some (Find words)) before after Replied does touched = absurd (let e : false ≡ true = touched in cc)
-link_of (Some (Assign words)) before after Replied does touched = absurd (let e : false ≡ true = touched in cc)
-link_of (Some (AssignSim words)) before after Replied does touched = absurd (let e : false ≡ true = touched in cc)
-link_of (Some (Big words)) before after Replied does touched = does.2
-
-pub download_of : (command : Option Command) (before after : Outside) (Replied : End → Type 0) (words : DownloadWords) → Does command before after Replied → command ≡ Some (Download words)
-    → RunsDialled words before.files after.files before.dialer after.dialer after.report Replied
-download_of command before after Replied words does e = (subst (λ (o : Option Command). Does o before after Replied) e does).0
-
-pub gateway_of : (command : Option Command) (before after : Outside) (Replied : End → Type 0) (words : GatewayWords) → Does command before after Replied → command ≡ Some (Gateway words)
-    → RunsGateway words before.files after.files before.dialer after.dialer before.line after.line Replied
-gateway_of command before after Replied words does e = (subst (λ (o : Option Command). Does o before after Replied) e does).0
-
-pub find_of : (command : Option Command) (before after : Outside) (Replied : End → Type 0) (words : FindWords) → Does command before after Replied → command ≡ Some (Find words) → RunsFind words before.dialer after.dialer Replied
-find_of command before after Replied words does e = (subst (λ (o : Option Command). Does o before after Replied) e does).0
-
-pub assign_of : (command : Option Command) (before after : Outside) (Replied : End → Type 0) (words : AssignWords) → Does command before after Replied → command ≡ Some (Assign words) → RunsAssign words before.dialer after.dialer Replied
-assign_of command before after Replied words does e = (subst (λ (o : Option Command). Does o before after Replied) e does).0
-
-pub assign_sim_of : (command : Option Command) (before after : Outside) (Replied : End → Type 0) (words : AssignSimWords) → Does command before after Replied → command ≡ Some (AssignSim words)
-    → RunsAssignSim words before.files after.files before.units after.units Replied
-assign_sim_of command before after Replied words does e = (subst (λ (o : Option Command). Does o before after Replied) e does).0
-
-pub big_of : (command : Option Command) (before after : Outside) (Replied : End → Type 0) (words : BigWords) → Does command before after Replied → command ≡ Some (Big words) → RunsMade words before.line (left_in after) Replied
-big_of command before after Replied words does e = (subst (λ (o : Option Command). Does o before after Replied) e does).0
+-- ---- what follows of the whole call
 
 -- what a command doesn't touch
 pub line_of : (command : Option Command) (before after : Outside) (Replied : End → Type 0) → Does command before after Replied → (touches command).line ≡ false → after.line ≡ before.line
@@ -153,67 +80,3 @@ faults_in (Some (Find words)) before after Replied does = (None, does.1)
 faults_in (Some (Assign words)) before after Replied does = (None, does.1)
 faults_in (Some (AssignSim words)) before after Replied does = (failed (Some words.units) does.0.reading, does.0.counts)
 faults_in (Some (Big words)) before after Replied does = (None, does.1)
-
--- ---- what is so of each run
-
--- each run that a commission describes keeps the headline, where its report is told so
-abbrev OfEach : Status → (Report → Type 0) → Type 0
-OfEach ending Told = (c : Commission) (r : RunNow) (report : Report) (jobs : List JobWord) → Ran c r report jobs → Told report → KeepsHeadline ending c r report
-
--- the report of an end is told so
-abbrev pub TellsIts : (Report → Type 0) → End → Type 0
-TellsIts Told end = IfSome (report_in end) Told
-
-begun_of : (ending : Status) (Told : Report → Type 0) → OfEach ending Told
-    → (words : List (List ℕ)) (names : SimWords) (files : FilesNow) (before : BusNow) (after : Left) (texts : SimTexts) (end : End) → after.report ≡ report_in end → TellsIts Told end
-    → asked words ≡ Some (Sim names) → SimIsRead files.file names texts → first_some (sim_tests names texts) ≡ None → Runs (commission_told names texts) before after.line end → RunsRightly ending words files before after
-begun_of ending Told get words names files before after texts (ends.Stops told) report tells e is passes runs = NoRun (record { line = runs.1; report = report })
-begun_of ending Told get words names files before after texts (ends.Tells text) report tells e is passes runs = absurd runs
-begun_of ending Told get words names files before after texts ends.NotOpened report tells e is passes runs = absurd runs
-begun_of ending Told get words names files before after texts (ends.BreaksOff told want) report tells e is passes runs = HasRun names texts told e is passes report (get (commission_told names texts) after.line.run told runs.0 runs.1 tells)
-begun_of ending Told get words names files before after texts (ends.Reports told) report tells e is passes runs = HasRun names texts told.report e is passes report (get (commission_told names texts) after.line.run told.report told.jobs runs.ran tells)
-begun_of ending Told get words names files before after texts (ends.Sums told counts) report tells e is passes runs = absurd runs
-begun_of ending Told get words names files before after texts (ends.Serves served) report tells e is passes runs = absurd runs
-begun_of ending Told get words names files before after texts (ends.Finds searched) report tells e is passes runs = absurd runs
-begun_of ending Told get words names files before after texts (ends.Assigns given) report tells e is passes runs = absurd runs
-
-tested : (ending : Status) (Told : Report → Type 0) → OfEach ending Told
-    → (tests : Option Stop) (words : List (List ℕ)) (names : SimWords) (files files' : FilesNow) (before : BusNow) (after : Left) (Replied : End → Type 0) → ((end : End) → Replied end → TellsIts Told end) → (run : RunsScript names files files' before after Replied)
-    → first_some (sim_tests names run.texts) ≡ tests → asked words ≡ Some (Sim names) → RunsRightly ending words files before after
-tested ending Told get (Some why) words names files files' before after Replied tells run t e = NoRun (record { line = (run.stops why t).1; report = run.report ∙ stopped_report why run.end (run.stops why t).0 })
-tested ending Told get None words names files files' before after Replied tells run t e = begun_of ending Told get words names files before after run.texts run.end run.report (tells run.end run.replied) e run.is_read t (run.runs t)
-
-made_of : (ending : Status) (Told : Report → Type 0) → OfEach ending Told
-    → (words : List (List ℕ)) (names : BigWords) (files : FilesNow) (before : BusNow) (after : Left) (end : End) → after.report ≡ report_in end → TellsIts Told end → asked words ≡ Some (Big names) → Runs (commission_made names) before after.line end → RunsRightly ending words files before after
-made_of ending Told get words names files before after (ends.Stops told) report tells e runs = NoRun (record { line = runs.1; report = report })
-made_of ending Told get words names files before after (ends.Tells text) report tells e runs = absurd runs
-made_of ending Told get words names files before after ends.NotOpened report tells e runs = absurd runs
-made_of ending Told get words names files before after (ends.BreaksOff told want) report tells e runs = HasRunMade names told e report (get (commission_made names) after.line.run told runs.0 runs.1 tells)
-made_of ending Told get words names files before after (ends.Reports told) report tells e runs = HasRunMade names told.report e report (get (commission_made names) after.line.run told.report told.jobs runs.ran tells)
-made_of ending Told get words names files before after (ends.Sums told counts) report tells e runs = absurd runs
-made_of ending Told get words names files before after (ends.Serves served) report tells e runs = absurd runs
-made_of ending Told get words names files before after (ends.Finds searched) report tells e runs = absurd runs
-made_of ending Told get words names files before after (ends.Assigns given) report tells e runs = absurd runs
-
-ran_in : (ending : Status) (Told : Report → Type 0) → OfEach ending Told
-    → (command : Option Command) (words : List (List ℕ)) (before after : Outside) (Replied : End → Type 0) → ((end : End) → Replied end → TellsIts Told end) → asked words ≡ command → Does command before after Replied → RunsRightly ending words before.files before.line (left_in after)
-ran_in ending Told get None words before after Replied tells e does = NoRun does.2
-ran_in ending Told get (Some (Check names)) words before after Replied tells e does = NoRun does.1
-ran_in ending Told get (Some (Tables names)) words before after Replied tells e does = NoRun does.1
-ran_in ending Told get (Some (Migrate names)) words before after Replied tells e does = NoRun does.1
-ran_in ending Told get (Some (Sim names)) words before after Replied tells e does = tested ending Told get _ words names before.files after.files before.line (left_in after) Replied tells does.0 refl e
-ran_in ending Told get (Some (Decode word)) words before after Replied tells e does = NoRun does.2
-ran_in ending Told get (Some (Download names)) words before after Replied tells e does = Elsewhere names e does.1
-ran_in ending Told get (Some (Gateway names)) words before after Replied tells e does = AtPort names e does.1
-ran_in ending Told get (Some (Find names)) words before after Replied tells e does = NoRun does.2
-ran_in ending Told get (Some (Assign names)) words before after Replied tells e does = NoRun does.2
-ran_in ending Told get (Some (AssignSim names)) words before after Replied tells e does = NoRun does.1
-ran_in ending Told get (Some (Big names)) words before after Replied tells e does =
-    let run = does.0 in
-    let told : TellsIts Told run.end = subst (λ (report : Option Report). IfSome report Told) (report_summed (counts_of (made names)) run.end) (tells (summed (counts_of (made names)) run.end) run.replied) in
-    made_of ending Told get words names before.files before.line (left_in after) run.end run.report told e run.runs
-
--- what is so of each run whose report is told as what is written tells it is so of the call's
-pub ran_of : (ending : Status) (Told : Report → Type 0) → ((c : Commission) (r : RunNow) (report : Report) (jobs : List JobWord) → Ran c r report jobs → Told report → KeepsHeadline ending c r report)
-    → (words : List (List ℕ)) (before after : Outside) (Replied : End → Type 0) → ((end : End) → Replied end → TellsIts Told end) → Does (asked words) before after Replied → RunsRightly ending words before.files before.line (left_in after)
-ran_of ending Told get words before after Replied tells does = ran_in ending Told get (asked words) words before after Replied tells refl does

@@ -16,10 +16,9 @@ use Rattle.line_model.specs.StartOf.{is_on_bus}
 use Rattle.report_text.specs.LineStatus.{has_failure, status_of}
 use Rattle.knx_top.specs.Complete.{IsReportedWhole, IsRunServed, IsRunTold, IsWithinBounds, NothingDisturbs}
 use Rattle.call_parts.specs.Jobs.{ArePlanned}
-use Rattle.knx_top.specs.Ran.{Commission, Left, log_in}
-use Rattle.knx_top.specs.Undisturbed.{EndsSo, EndsUndisturbed, IsUndisturbed}
+use Rattle.knx_top.specs.Ran.{Commission, Left, Ran, log_in}
+use Rattle.knx_top.specs.Undisturbed.{EndsSo, IsUndisturbed}
 use Rattle.call_parts.specs.declared.ending.End.TheVariants as ends
-use Rattle.knx_top.proofs.Undisturbed.{Laws, ends_undisturbed}
 
 -- ---- the jobs are those that the words name
 
@@ -40,21 +39,21 @@ never_more n is few = let less : flood < flood = subst (λ (k : ℕ). k < flood)
 
 -- ---- all of it
 
-module _ (laws : Laws) (c : Commission) (after : Left) (out out' : SinkNow) (ending : Status) (quiet : NothingDisturbs c) (within : IsWithinBounds c.turns after.line.run) where
+module _ (c : Commission) (after : Left) (out out' : SinkNow) (ending : Status) (quiet : NothingDisturbs c) (within : IsWithinBounds c.turns after.line.run) where
   module _ (whole : IsReportedWhole (λ told. ends.Reports told) c after out out' ending) where
     abbrev report : Report
     report = whole.told.report
 
-    h : EndsUndisturbed ending c after.line.run report
-    h = ends_undisturbed laws c after.line.run report whole.told.jobs whole.reported.ran ending (inl whole.status_is)
+    ran : Ran c after.line.run report whole.told.jobs
+    ran = whole.reported.ran
 
-    undisturbed : IsUndisturbed c h.jobs
-    undisturbed = record { says = quiet.says; devices = on_line c.project c.before h.jobs h.words h.planned (quiet.devices h.words h.are) }
+    undisturbed : IsUndisturbed c.project c.before c.script ran.jobs
+    undisturbed = record { says = quiet.says; devices = on_line c.project c.before ran.jobs whole.told.jobs ran.planned (quiet.devices whole.told.jobs ran.words_are) }
 
-    by_fault : (o : Option HubFault) → report.fault ≡ o → EndsSo h.jobs c.turns after.line.run (log_in report) o → IsRunServed c after out out' ending
+    by_fault : (o : Option HubFault) → report.fault ≡ o → EndsSo ran.jobs c.turns after.line.run (log_in report) o → IsRunServed c after out out' ending
     by_fault None none served = inr (record {
       whole = whole;
-      served = record { words = h.words; are = h.are; jobs = h.jobs; planned = h.planned; holds = served };
+      served = record { words = whole.told.jobs; are = ran.words_are; jobs = ran.jobs; planned = ran.planned; holds = served };
       passes = plain (has_failure report.log) ending (whole.status_is ∙ ap (λ (o : Option HubFault). status_of o report.log) none);
     })
     by_fault (Some (NoMemory want)) is served = inl (whole.status_is ∙ ap (λ (o : Option HubFault). status_of o report.log) is)
@@ -64,7 +63,7 @@ module _ (laws : Laws) (c : Commission) (after : Left) (out out' : SinkNow) (end
     by_fault (Some (WrongLine device tunnel)) is never = absurd never
 
     whole_served : IsRunServed c after out out' ending
-    whole_served = by_fault report.fault refl (h.holds undisturbed).ends
+    whole_served = by_fault report.fault refl (ran.undisturbed undisturbed).ends
 
   pub run_served : IsRunTold (λ told. ends.Reports told) c after out out' ending → IsRunServed c after out out' ending
   run_served (inl want) = inl want

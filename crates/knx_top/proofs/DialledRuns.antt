@@ -3,10 +3,9 @@ use Rattle.std.proofs.Common.{◌≡◌, ◌⊎◌, inl, inr, ◌≤◌, List, [
 use Rattle.std.specs.Prelude.{IfSome}
 use Rattle.std.specs.List.{AllByRecursion}
 use Rattle.hub_work.specs.declared.job.HubJob.{HubJob}
-use Rattle.hub_work.specs.Books.{AreJobsOf}
 use Rattle.hub_core.specs.Commissioned.{TellsRun, WantsAtFirst}
-use Rattle.hub_core.specs.Promises.{HastensIn, IsRightOver, LeavesOver}
-use Rattle.hub_core.specs.Seen.{AreJobs, tasks_seen}
+use Rattle.hub_core.specs.Promises.{IsRightOver}
+use Rattle.hub_core.specs.Seen.{tasks_seen}
 use Rattle.call_words.specs.declared.job_word.JobWord.{JobWord}
 use Rattle.knx_model.specs.Outside.{one_more}
 use Rattle.knx_model.specs.Meaning.{Installation}
@@ -17,17 +16,16 @@ use Rattle.line_model.specs.declared.group.GroupTurn.{GroupTurn}
 use Rattle.line_model.specs.declared.outside.link_counts.LinkCounts.{LinkCounts}
 use Rattle.line_model.specs.Polled.{none_failed}
 use Rattle.line_model.specs.Dialled.{Address, DialerNow, TakesBack, Tells}
-use Rattle.line_model.specs.Headline.{IsGoodJob, Keeps}
-use Rattle.line_model.specs.LinkStory.{Story, Untold, Recorded, Full, IsNewLink}
-use Rattle.line_model.specs.Log.{Job, IsLog}
-use Rattle.tunnel_link.specs.Goes.{GoesOn}
+use Rattle.line_model.specs.Headline.{IsGoodJob}
+use Rattle.line_model.specs.LinkStory.{IsNewLink, Story, Untold, Recorded, Full}
+use Rattle.line_model.specs.Log.{Job}
 use Rattle.tunnel_link.specs.Rights.{FailsWhere}
-use Rattle.knx_top.specs.Dialled.{HasItsCause, IsToldOver, MeansOver}
+use Rattle.knx_top.specs.Dialled.{HasItsCause, MeansOver}
 use Rattle.call_parts.specs.Jobs.{ArePlanned, seen_job}
 use Rattle.call_parts.specs.Options.{SimOptions, workers_of}
-use Rattle.knx_top.specs.Ran.{log_in}
+use Rattle.knx_top.specs.Ran.{HasThreeTries, IsToldOver, log_in}
 use Rattle.knx_top.specs.declared.commands.download.Ready.{Ready}
-use Rattle.knx_top.proofs.Driven.{devices_seen, jobs_seen}
+use Rattle.knx_top.proofs.Driven.{told_of}
 use Rattle.knx_top.proofs.Meanings.{devices_mean, done_means}
 use Rattle.call_parts.specs.declared.ending.End.TheVariants as ends
 use Rattle.knx_top.specs.commands.Download.{DialledRun, Dials, Download, IsReadyFor}
@@ -60,32 +58,10 @@ means_over project jobs words (Full start events) log planned right = (devices_m
 
 -- ---- the run
 
-pub told_over : (workers : ℕ) (plans : List HubJob) (groups : List GroupTurn) (began after : Story) (place : ℕ) (report : Report) → groups ≡ [] → IsNewLink began → GoesOn began after → AllByRecursion IsGoodJob (map seen_job plans)
-    → TellsRun workers (tasks_seen plans) (map (λ (job : HubJob). job.device) plans) groups after place report → IsToldOver workers [] (map seen_job plans) after report
-told_over workers plans groups began after place report none new goes good tells =
-    let jobs : List Job = map seen_job plans in
-    let are : AreJobs plans jobs = jobs_seen plans in
-    let of : AreJobsOf (map (λ (job : HubJob). job.device) plans) jobs = devices_seen plans in
-    record {
-      began = began;
-      new = new;
-      goes = goes;
-      keeps = subst (λ (turns : List GroupTurn). Keeps jobs turns after (log_in report)) none (tells.headline jobs are);
-      right = tells.right jobs are good;
-      hastens = subst (λ (turns : List GroupTurn). HastensIn jobs turns (log_in report) after) none (tells.hastens jobs are);
-      thorough = tells.thorough jobs are;
-      leaves = subst (λ (turns : List GroupTurn). LeavesOver jobs turns after (log_in report)) none (tells.leaves jobs of);
-      fault = tells.fault jobs are;
-      ended = λ fine. tells.over fine jobs of;
-      closed = tells.closed;
-      place = place;
-      form = subst (λ (turns : List GroupTurn). IsLog jobs turns place (log_in report)) none (tells.form jobs of);
-      alone = tells.alone jobs of;
-      in_order = tells.in_order jobs of;
-      seats = tells.seats;
-      heard = tells.heard;
-      dropped = tells.dropped;
-    }
+pub told_over : (workers : ℕ) (plans : List HubJob) (groups : List GroupTurn) (after : Story) (place : ℕ) (report : Report) → groups ≡ [] → AllByRecursion IsGoodJob (map seen_job plans)
+    → TellsRun workers (tasks_seen plans) (map (λ (job : HubJob). job.device) plans) groups after place report → HasThreeTries report.fault → IsToldOver workers [] (map seen_job plans) after report
+told_over workers plans groups after place report none good tells tries =
+    subst (λ (turns : List GroupTurn). IsToldOver workers turns (map seen_job plans) after report) none (told_of workers plans groups after place report good tells tries)
 
 pub to_address : (one other : Address) (given : Option Address) → one ≡ other → Tells other.host other.port given → Tells one.host one.port given
 to_address one other given same tells = subst (λ (at : Address). Tells at.host at.port given) (sym same) tells

@@ -1,5 +1,5 @@
 -- A run that the workers of its words drive over the simulated line: what is promised of it, in the words of its commission.
-use Rattle.std.proofs.Common.{◌≡◌, ◌⊎◌, ℕ, inl, inr, List, [], ◌∷◌, ◌++◌, length, map, Option, Some, None, refl, sym, ap, ◌∙◌, subst, arith}
+use Rattle.std.proofs.Common.{◌≡◌, ◌⊎◌, ◌≤◌, ℕ, inl, inr, List, [], ◌∷◌, ◌++◌, length, map, Option, Some, None, refl, sym, ap, ◌∙◌, subst, arith}
 use Rattle.std.specs.Prelude.{IfSome}
 use Rattle.std.specs.List.{AllByRecursion}
 use Rattle.std.proofs.lemmas.List.{length-map}
@@ -10,12 +10,7 @@ use Rattle.bus_sim.specs.Begun.{mode_of}
 use Rattle.bus_sim.specs.Ended.{FailsAtEnd, IsAtEnd}
 use Rattle.bus_sim.specs.RunNow.{RunNow, mode, script, start, story, story_of}
 use Rattle.hub_core.specs.Commissioned.{TellsRun, WantsAtFirst}
-use Rattle.hub_core.specs.Promises.{IsRightOver, FaultRightIn, DropsIn, HastensIn, LeavesOver}
 use Rattle.hub_core.specs.Seen.{AreJobs, tasks_seen}
-use Rattle.hub_core.specs.Thorough.{IsThoroughOver}
-use Rattle.hub_core.specs.Closed.{HasClosed}
-use Rattle.hub_core.specs.Heard.{HeardIn}
-use Rattle.hub_core.specs.Seats.{IsOfWorkers}
 use Rattle.hub_work.specs.declared.job.HubJob.{HubJob}
 use Rattle.hub_work.specs.Books.{AreJobsOf}
 use Rattle.hub_work.specs.Downloaders.{Task, task_of_hub_job}
@@ -28,27 +23,27 @@ use Rattle.line_model.specs.declared.log.Report.{Report}
 use Rattle.line_model.specs.declared.outside.link_counts.LinkCounts.{LinkCounts}
 use Rattle.line_model.specs.Follows.{Follows}
 use Rattle.line_model.specs.Fresh.{IsFresh}
-use Rattle.line_model.specs.Headline.{IsDisciplined, IsGoodJob, IsRight, Keeps}
-use Rattle.line_model.specs.Leaves.{LeavesRightly}
+use Rattle.line_model.specs.Headline.{IsGoodJob, IsRight}
 use Rattle.line_model.specs.Legal.{IsLegal}
 use Rattle.line_model.specs.declared.group.GroupTurn.{GroupTurn}
 use Rattle.line_model.specs.Lines.{Script, script_of}
-use Rattle.line_model.specs.LinkStory.{Full, record_in}
-use Rattle.line_model.specs.Haste.{LosesNoTimes}
-use Rattle.line_model.specs.Log.{Job, TurnUnfinished}
+use Rattle.line_model.specs.LinkStory.{Full, Story}
+use Rattle.line_model.specs.Log.{Job}
 use Rattle.line_model.specs.Polled.{none_failed}
-use Rattle.line_model.specs.Record.{placed}
 use Rattle.line_model.specs.StartOf.{BusOf}
 use Rattle.line_model.specs.Tunnel.{Commissions}
 use Rattle.line_model.specs.World.{World, Event}
 use Rattle.tunnel_link.specs.Goes.{GoesOn}
-use Rattle.tunnel_link.specs.Rights.{FailsWhere, WhereTold}
+use Rattle.tunnel_link.specs.Rights.{FailsWhere}
 use Rattle.knx_top.specs.Begun.{IsOrder}
 use Rattle.call_parts.specs.Jobs.{seen_job}
-use Rattle.knx_top.specs.Ran.{HasCauseOnLine, HasThreeTries, IsRunOf, KeepsPromises, Ran, log_in, Commission}
+use Rattle.call_parts.specs.Options.{most_jobs}
+use Rattle.call_parts.specs.Turns.{most_turns}
+use Rattle.knx_top.specs.Ran.{HasCauseOnLine, HasThreeTries, IsRunOf, IsToldOver, KeepsPromises, Ran, log_in, Commission}
 use Rattle.knx_top.specs.declared.commands.sim.judge.Order.{Order}
 use Rattle.knx_top.proofs.Meanings.{devices_mean, done_means}
 use Rattle.knx_top.proofs.Telegrams.{telegrams_by_project}
+use Rattle.knx_top.proofs.Undisturbed.{Laws, nothing_fails}
 
 -- ---- the jobs of the hub are those that the definitions see
 
@@ -143,43 +138,59 @@ keeps_promises c order r log is run right =
 
 -- ---- all of it
 
-pub driven : (c : Commission) (order : Order) (workers : ℕ) (turns : List GroupTurn) (line : BusNow) (place : ℕ) (report : Report) → IsOrder c order → workers ≡ c.workers → turns ≡ c.turns → order.line.run.begun.clients ≡ One → GoesOn (story order.line.run) (story line.run) → script line.run ≡ script order.line.run
+-- what is told of a run, over any link
+pub told_of : (workers : ℕ) (plans : List HubJob) (turns : List GroupTurn) (after : Story) (place : ℕ) (report : Report) → AllByRecursion IsGoodJob (map seen_job plans)
+    → TellsRun workers (tasks_seen plans) (map (λ (job : HubJob). job.device) plans) turns after place report → HasThreeTries report.fault → IsToldOver workers turns (map seen_job plans) after report
+told_of workers plans turns after place report good tells tries =
+    let jobs : List Job = map seen_job plans in
+    let are : AreJobs plans jobs = jobs_seen plans in
+    let of : AreJobsOf (map (λ (job : HubJob). job.device) plans) jobs = devices_seen plans in
+    record {
+      keeps = tells.headline jobs are;
+      right = tells.right jobs are good;
+      hastens = tells.hastens jobs are;
+      thorough = tells.thorough jobs are;
+      leaves = tells.leaves jobs of;
+      fault = tells.fault jobs are;
+      tries = tries;
+      ended = λ none. tells.over none jobs of;
+      sent = tells.told;
+      closed = tells.closed;
+      place = place;
+      form = tells.form jobs of;
+      alone = tells.alone jobs of;
+      in_order = tells.in_order jobs of;
+      seats = tells.seats;
+      heard = tells.heard;
+      dropped = tells.dropped;
+    }
+
+pub driven : (laws : Laws) (c : Commission) (order : Order) (workers : ℕ) (turns : List GroupTurn) (line : BusNow) (place : ℕ) (report : Report) → IsOrder c order → workers ≡ c.workers → turns ≡ c.turns → order.line.run.begun.clients ≡ One → GoesOn (story order.line.run) (story line.run) → script line.run ≡ script order.line.run
     → IsFresh (start line.run) → IsLegal (mode line.run) (start line.run) line.run.events → Follows (script line.run) (mode line.run) (start line.run) line.run.events
     → AllByRecursion IsGoodJob (map seen_job order.plans) → TellsRun workers (tasks_seen order.plans) (map (λ (job : HubJob). job.device) order.plans) turns (story line.run) place report
     → HasThreeTries report.fault → IfSome report.fault (HasCauseOnLine report line) → Ran c line.run report order.jobs
-driven c order workers turns line place report is by sends one goes says fresh legal follows good tells tries last =
+driven laws c order workers turns line place report is by sends one goes says fresh legal follows good tells tries cause =
     let jobs : List Job = map seen_job order.plans in
-    let are : AreJobs order.plans jobs = jobs_seen order.plans in
-    let of : AreJobsOf (map (λ (job : HubJob). job.device) order.plans) jobs = devices_seen order.plans in
     let whole : story line.run ≡ Full (start line.run) line.run.events = told_whole order.line.run line.run one goes in
     let in_run : mode line.run ≡ Commissions = ap mode_of (still_one order.line.run line.run one goes) in
-    let now_right : IsRight jobs (start line.run) line.run.events (log_in report) = subst (λ s. IsRightOver jobs s (log_in report)) whole (tells.right jobs are good) in
-    let kept : Keeps jobs turns (Full (start line.run) line.run.events) (log_in report) = subst (λ s. Keeps jobs turns s (log_in report)) whole (tells.headline jobs are) in
-    let left : LeavesOver jobs turns (Full (start line.run) line.run.events) (log_in report) = subst (λ s. LeavesOver jobs turns s (log_in report)) whole (tells.leaves jobs of) in
     let run : IsRunOf c line.run = is_run c order line.run is (same_start order.line.run line.run one goes) says fresh
     (subst (λ m. IsLegal m (start line.run) line.run.events) in_run legal) (subst (λ m. Follows (script line.run) m (start line.run) line.run.events) in_run follows) in
+    let over : IsToldOver workers turns jobs (Full (start line.run) line.run.events) report = subst (λ s. IsToldOver workers turns jobs s report) whole (told_of workers order.plans turns (story line.run) place report good tells tries) in
+    let told : IsToldOver c.workers c.turns jobs (Full (start line.run) line.run.events) report =
+    subst (λ (ts : List GroupTurn). IsToldOver c.workers ts jobs (Full (start line.run) line.run.events) report) sends (subst (λ (n : ℕ). IsToldOver n turns jobs (Full (start line.run) line.run.events) report) by over) in
+    let promises : KeepsPromises c jobs line.run (log_in report) = keeps_promises c order line.run (log_in report) is run told.right in
+    let last : (report.fault ≡ Some LinkFailed → IsAtEnd line.run) = failed_at_end report.fault report line cause in
+    let few_jobs : length jobs ≤ most_jobs = omega (arith, length-map order.plans seen_job, is.prepared.few) in
+    let few_turns : length c.turns ≤ most_turns = omega (arith, ap length is.turns, ap length is.prepared.turns, is.prepared.few_turns) in
     record {
       run = run;
       words_are = is.prepared.jobs;
       jobs = jobs;
       planned = is.prepared.plans;
-      few_jobs = omega (arith, length-map order.plans seen_job, is.prepared.few);
-      few_turns = omega (arith, ap length is.turns, ap length is.prepared.turns, is.prepared.few_turns);
-      promises = keeps_promises c order line.run (log_in report) is run now_right;
-      told = record {
-        disciplined = subst (λ (ts : List GroupTurn). IsDisciplined jobs ts (length line.run.events) (placed (start line.run) line.run.events) (log_in report)) sends kept.disciplined;
-        thorough = subst (λ s. IsThoroughOver jobs s (log_in report)) whole (tells.thorough jobs are);
-        hastens = subst (λ (ts : List GroupTurn). LosesNoTimes jobs ts (log_in report) (placed (start line.run) line.run.events)) sends (subst (λ s. HastensIn jobs turns (log_in report) s) whole (tells.hastens jobs are) (placed (start line.run) line.run.events) refl);
-        leaves = subst (λ (ts : List GroupTurn). LeavesRightly jobs ts (log_in report) (placed (start line.run) line.run.events)) sends left;
-        fault = subst (λ s. FaultRightIn jobs (log_in report) report.fault (record_in s)) whole (tells.fault jobs are);
-        tries = tries;
-        last = failed_at_end report.fault report line last;
-        ended = λ none. tells.over none jobs of;
-        sent = λ none. subst (λ (ts : List GroupTurn). ¬ TurnUnfinished ts (log_in report)) sends (tells.told none);
-        in_order = tells.in_order jobs of;
-        closed = λ none. subst (λ s. WhereTold (HasClosed (log_in report)) s) whole (tells.closed none) (placed (start line.run) line.run.events) refl;
-        heard = subst (λ s. HeardIn report.fault report.missed report.heard (record_in s)) whole tells.heard;
-        seats = subst (λ (n : ℕ). IsOfWorkers n (log_in report)) by tells.seats;
-        dropped = subst (λ s. DropsIn report.dropped (record_in s)) whole tells.dropped;
-      };
+      few_jobs = few_jobs;
+      few_turns = few_turns;
+      promises = promises;
+      told = told;
+      last = last;
+      undisturbed = λ u. nothing_fails laws c line.run report order.jobs jobs is.prepared.plans few_jobs few_turns run promises told last u;
     }

@@ -60,7 +60,6 @@ use Rattle.call_parts.specs.declared.ending.End.TheVariants as ends
 use Rattle.knx_top.proofs.CalmRuns.{on_line}
 use Rattle.knx_top.proofs.DoneCounts.{all_done, done_either_way, job_at, numbered, told_tells}
 use Rattle.knx_top.proofs.MadeDevices.{all_on, each_on, has_it, how_many, length_made, listed}
-use Rattle.knx_top.proofs.Undisturbed.{Laws, nothing_fails}
 
 -- ---- the words
 
@@ -165,7 +164,7 @@ kept_over project device None other both h = absurd h
 
 -- ---- all of it
 
-module _ (laws : Laws) (words : BigWords) (some : 1 ≤ words.devices) (few : words.devices ≤ 254) (after : Left) (out out' : SinkNow) (ending : Status) (early : ¬ IsAtEnd after.line.run) where
+module _ (words : BigWords) (some : 1 ≤ words.devices) (few : words.devices ≤ 254) (after : Left) (out out' : SinkNow) (ending : Status) (early : ¬ IsAtEnd after.line.run) where
   abbrev c : Commission
   c = commission_made words
 
@@ -188,20 +187,20 @@ module _ (laws : Laws) (words : BigWords) (some : 1 ≤ words.devices) (few : wo
     planned : ArePlanned p ran.jobs (map load_of devices)
     planned = subst (λ (ws : List JobWord). ArePlanned p ran.jobs ws) ran.words_are.jobs_are ran.planned
 
-    undisturbed : IsUndisturbed c ran.jobs
+    undisturbed : IsUndisturbed p nothing [] ran.jobs
     undisturbed = record { says = refl; devices = on_line p nothing ran.jobs (map load_of devices) planned (all_on words some few devices ran.words_are.all) }
 
     abbrev log : List LogEntry
     log = log_in report
 
     served_by : EndsSo ran.jobs c.turns r log report.fault
-    served_by = (nothing_fails laws c r report whole.told.jobs ran undisturbed ending (inl whole.status_is)).ends
+    served_by = (ran.undisturbed undisturbed).ends
 
     -- ---- where all is served
 
     module _ (none : report.fault ≡ None) (served : AllServed ran.jobs c.turns (start r) log) where
       form : IsLog ran.jobs c.turns (length r.events) log
-      form = ran.told.disciplined.form
+      form = ran.told.keeps.disciplined.form
 
       -- each job loads
       loads_at : (jobs : List Job) (ds : List IndAddr) (i : ℕ) → ArePlanned p jobs (map load_of ds) → i < length jobs → (job : Job) × (slice_get jobs i ≡ Some job) × (job.loads ≡ true)
@@ -346,9 +345,9 @@ module _ (laws : Laws) (words : BigWords) (some : 1 ≤ words.devices) (few : wo
   run_loaded (inr whole) = whole_loaded whole
 
 -- by the words
-pub made_loaded : (laws : Laws) (number from : List ℕ) (words : BigWords) (after : Left) (out out' : SinkNow) (ending : Status) → big_words (number ∷ from ∷ []) ≡ Some words → ¬ IsAtEnd after.line.run
+pub made_loaded : (number from : List ℕ) (words : BigWords) (after : Left) (out out' : SinkNow) (ending : Status) → big_words (number ∷ from ∷ []) ≡ Some words → ¬ IsAtEnd after.line.run
     → IsRunTold (λ told. ends.Sums told (counts_of (made words))) (commission_made words) after out out' ending → IsLoadedWhole words out out' ending
-made_loaded laws number from words after out out' ending read early told = by_number (from_1_to 254 number) refl read where
+made_loaded number from words after out out' ending read early told = by_number (from_1_to 254 number) refl read where
   by_start : (n : ℕ) (o : Option ℕ) → option_map (λ (x : ℕ). let w : BigWords = record { devices = n; start = x } in w) o ≡ Some words → n ≡ words.devices
   by_start n None h = absurd (cc)
   by_start n (Some x) h = let same : Some (let w : BigWords = record { devices = n; start = x } in w) ≡ Some words = h in ap (λ (o : Option BigWords). devices_in o) same where
@@ -361,4 +360,4 @@ made_loaded laws number from words after out out' ending read early told = by_nu
   by_number (Some n) is h =
       let range = from_range 254 (number_value number) n is in
       let same : n ≡ words.devices = by_start n (start_value from) h in
-      run_loaded laws words (subst (λ m. 1 ≤ m) same range.0) (subst (λ m. m ≤ 254) same range.1) after out out' ending early told
+      run_loaded words (subst (λ m. 1 ≤ m) same range.0) (subst (λ m. m ≤ 254) same range.1) after out out' ending early told

@@ -13,7 +13,7 @@ use Rattle.call_parts.specs.Options.{SimOptions, from_1_to, no_options, project_
 use Rattle.knx_top.specs.commands.Sim.{SimWords, sim_words}
 use Rattle.knx_model.specs.Addresses.{ind_value}
 use Rattle.knx_model.specs.declared.address.IndAddr.{IndAddr}
-use Rattle.knx_top.specs.commands.Assign.{AssignSimWords, AssignWords, assign_sim_words, assign_words}
+use Rattle.knx_top.specs.commands.Assign.{AssignSimWords, AssignWords, assign_sim_words}
 use Rattle.knx_top.specs.commands.Big.{BigWords, big_words, most_devices, start_value}
 use Rattle.knx_top.specs.commands.Download.{DownloadWords, download_words}
 use Rattle.discovery.specs.declared.inquiry.Inquiry.{Inquiry}

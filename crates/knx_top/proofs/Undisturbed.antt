@@ -1,15 +1,15 @@
 -- In a run that nothing disturbs nothing fails: it begins as the law of calm lines wants, its jobs have plans that each device serves, and its client loses no
 -- time.
-use Rattle.std.proofs.Common.{◌≡◌, ◌≢◌, inl, inr, ℕ, zero, suc, ◌-◌, Bool, true, false, List, [], ◌∷◌, slice_get, Option, Some, None, refl, sym, ap, subst, ◌∙◌, arith}
+use Rattle.std.proofs.Common.{◌≡◌, ◌≢◌, inl, inr, ℕ, zero, suc, ◌-◌, ◌≤◌, Bool, true, false, List, [], ◌∷◌, slice_get, Option, Some, None, refl, sym, ap, subst, ◌∙◌, arith}
 use Rattle.std.specs.Prelude.{IfSome, length, not, reverse, ◌||◌, ◌==◌, if◌then◌else◌}
 use Rattle.std.specs.List.{AllByRecursion, list_all}
 use Rattle.std.proofs.lemmas.Bool.{and_parts}
 use Rattle.std.proofs.lemmas.Bool.Decides.{nat_tests}
+use Rattle.bus_sim.specs.Ended.{IsAtEnd}
 use Rattle.bus_sim.specs.RunNow.{RunNow, start}
 use Rattle.call_words.specs.declared.job_word.JobKind.{JobKind}
 use Rattle.call_words.specs.declared.job_word.JobKind.TheVariants.{Load, Check}
 use Rattle.call_words.specs.declared.job_word.JobWord.{JobWord}
-use Rattle.call_words.specs.declared.status.Status.{Status}
 use Rattle.calm_law.specs.CalmChecks.{ChecksExactly, HaveOneImage, IsAnsweredRightly}
 use Rattle.calm_law.specs.CalmCounts.{ComeForWrites, some_reads}
 use Rattle.calm_law.specs.CalmEnds.{Told, IsAnsweredJob, EndWell}
@@ -46,6 +46,7 @@ use Rattle.line_model.specs.Follows.{Follows}
 use Rattle.line_model.specs.Fresh.{IsFresh}
 use Rattle.line_model.specs.Legal.{IsLegal, OfDevice}
 use Rattle.line_model.specs.Lines.{Script, is_off, says_off, script_of}
+use Rattle.line_model.specs.LinkStory.{Full}
 use Rattle.line_model.specs.Log.{Job, Over, TurnUnfinished, has_entry, is_turn, job_of, state_of, turn_of}
 use Rattle.line_model.specs.OldStoppedOrNew.{DoneSo, IsUntouched, MeansWhereDone, RunsWhereDone, StaysDone, world_at}
 use Rattle.line_model.specs.Record.{Entry, Placed, placed, record_of}
@@ -57,9 +58,10 @@ use Rattle.line_model.specs.World.{World, Event, me}
 use Rattle.call_parts.specs.Jobs.{ArePlanned, IsPlanned, is_load, plan_of}
 use Rattle.table_compiler.proofs.Unique.{one_image}
 use Rattle.knx_top.proofs.Meanings.{planned_of}
-use Rattle.knx_top.specs.Ran.{Commission, IsRunOf, IsTold, Ran, log_in}
-use Rattle.knx_top.specs.Undisturbed.{IsUndisturbed, AllServed, EndsSo, FloodsSo, NothingFails, EndsUndisturbed}
-use Rattle.knx_top.proofs.Statuses.{AnswersWith, may_end}
+use Rattle.call_parts.specs.Options.{most_jobs}
+use Rattle.call_parts.specs.Turns.{most_turns}
+use Rattle.knx_top.specs.Ran.{Commission, IsRunOf, IsToldOver, KeepsPromises, log_in}
+use Rattle.knx_top.specs.Undisturbed.{IsUndisturbed, AllServed, EndsSo, FloodsSo, NothingFails}
 use Rattle.knx_top.proofs.Unflooded.{ChecksCost, LoadsCost, unflooded}
 use Rattle.knx_top.proofs.Unbroken.{no_three, none_elsewhere, none_wrong}
 
@@ -205,24 +207,24 @@ each_asked : (jobs : List Job) (turns : List GroupTurn) (log : List LogEntry) (p
 each_asked jobs turns log [] h = tt
 each_asked jobs turns log (p ∷ older) h = (h.0.asks, each_asked jobs turns log older h.1)
 
-client : (c : Commission) (jobs : List Job) (r : RunNow) (report : Report) → IsRunOf c r → IsTold c jobs r report → IsPromptClient jobs c.turns (start r) r.events (log_in report)
+client : (c : Commission) (jobs : List Job) (r : RunNow) (report : Report) → IsRunOf c r → IsToldOver c.workers c.turns jobs (Full (start r) r.events) report → IsPromptClient jobs c.turns (start r) r.events (log_in report)
 client c jobs r report run told = record {
   safe = record {
     fresh = run.fresh;
     legal = run.legal;
     safe = record {
-      form = told.disciplined.form;
-      alone = told.disciplined.alone;
-      truly = told.disciplined.truly;
-      renews = told.disciplined.renews;
-      sends = told.disciplined.sends;
-      asks = each_asked jobs c.turns (log_in report) (placed (start r) r.events) told.disciplined.asks.each;
+      form = told.keeps.disciplined.form;
+      alone = told.keeps.disciplined.alone;
+      truly = told.keeps.disciplined.truly;
+      renews = told.keeps.disciplined.renews;
+      sends = told.keeps.disciplined.sends;
+      asks = each_asked jobs c.turns (log_in report) (placed (start r) r.events) told.keeps.disciplined.asks.each;
     };
   };
   ends = told.thorough.ends;
   begins = told.thorough.begins;
-  acknowledges = told.disciplined.asks.acknowledges;
-  hastens = told.hastens;
+  acknowledges = told.keeps.disciplined.asks.acknowledges;
+  hastens = told.hastens (placed (start r) r.events) refl;
 }
 
 -- ---- the group telegrams: each that is told was sent, where none was lost
@@ -277,83 +279,76 @@ pub record Laws : Type 0 where
   pub load_costs : LoadsCost
   pub check_costs : ChecksCost
 
-module _ (laws : Laws) (c : Commission) (r : RunNow) (report : Report) (words : List JobWord) (ran : Ran c r report words) where
-  answered : AllByRecursion IsAnsweredRightly ran.jobs
-  answered = all_answered c.project ran.jobs words ran.planned
+module _ (laws : Laws) (c : Commission) (r : RunNow) (report : Report) (words : List JobWord) (jobs : List Job) (planned : ArePlanned c.project jobs words) (few_jobs : length jobs ≤ most_jobs) (few_turns : length c.turns ≤ most_turns) (run : IsRunOf c r) (promises : KeepsPromises c jobs r (log_in report)) (told : IsToldOver c.workers c.turns jobs (Full (start r) r.events) report) (last : report.fault ≡ Some LinkFailed → IsAtEnd r) where
+  answered : AllByRecursion IsAnsweredRightly jobs
+  answered = all_answered c.project jobs words planned
 
-  module _ (u : IsUndisturbed c ran.jobs) where
+  module _ (u : IsUndisturbed c.project c.before c.script jobs) where
     power : HavePower (start r)
-    power = have_power c.project c.before (script_of c.script) (start r) ran.run.begins u.says
+    power = have_power c.project c.before (script_of c.script) (start r) run.begins u.says
 
     short : HaveShortValues (start r)
-    short = have_short_values c.project c.before (script_of c.script) (start r) ran.run.begins u.says
+    short = have_short_values c.project c.before (script_of c.script) (start r) run.begins u.says
 
-    devices : HasDevices ran.jobs (start r)
-    devices = has_devices c.project c.before (script_of c.script) (start r) ran.run.begins u.says ran.jobs u.devices
+    devices : HasDevices jobs (start r)
+    devices = has_devices c.project c.before (script_of c.script) (start r) run.begins u.says jobs u.devices
 
-    by : IsPromptClient ran.jobs c.turns (start r) r.events (log_in report)
-    by = client c ran.jobs r report ran.run ran.told
+    by : IsPromptClient jobs c.turns (start r) r.events (log_in report)
+    by = client c jobs r report run told
 
     calm : AreCalm (start r) r.events
-    calm = laws.calm (script_of c.script) (start r) r.events u.says ran.run.legal ran.run.follows
+    calm = laws.calm (script_of c.script) (start r) r.events u.says run.legal run.follows
 
-    each_served : AllByRecursion IsServedJob ran.jobs
-    each_served = all_served c.project ran.jobs words ran.planned
+    each_served : AllByRecursion IsServedJob jobs
+    each_served = all_served c.project jobs words planned
 
-    idle : IsPrompt ran.jobs (start r) (log_in report) r.events
-    idle = laws.prompt ran.jobs c.turns (start r) r.events (log_in report) each_served devices power by calm short
+    idle : IsPrompt jobs (start r) (log_in report) r.events
+    idle = laws.prompt jobs c.turns (start r) r.events (log_in report) each_served devices power by calm short
 
-    well : EndWell ran.jobs (log_in report)
-    well = laws.ended ran.jobs c.turns (start r) r.events (log_in report) each_served devices power by calm short
+    well : EndWell jobs (log_in report)
+    well = laws.ended jobs c.turns (start r) r.events (log_in report) each_served devices power by calm short
 
-    exactly : ChecksExactly ran.jobs (start r) (log_in report)
+    exactly : ChecksExactly jobs (start r) (log_in report)
     exactly =
-        laws.checks ran.jobs c.turns (start r) r.events (log_in report) each_served devices power by calm short ran.promises.devices.untouched ran.promises.devices.stays
-        (runs_where_done c.project ran.jobs words ran.planned (start r) r.events (log_in report) ran.promises.done) answered (have_one_image c.project ran.jobs words ran.planned)
+        laws.checks jobs c.turns (start r) r.events (log_in report) each_served devices power by calm short promises.devices.untouched promises.devices.stays
+        (runs_where_done c.project jobs words planned (start r) r.events (log_in report) promises.done) answered (have_one_image c.project jobs words planned)
 
-    over : report.fault ≡ None → (k : ℕ) (job : Job) → job_of ran.jobs k ≡ Some job → state_of k (log_in report) ≡ Over
-    over none k job is = ran.told.ended none k (some_is_there ran.jobs k job is)
+    over : report.fault ≡ None → (k : ℕ) (job : Job) → job_of jobs k ≡ Some job → state_of k (log_in report) ≡ Over
+    over none k job is = told.ended none k (some_is_there jobs k job is)
 
-    served : report.fault ≡ None → AllServed ran.jobs c.turns (start r) (log_in report)
+    served : report.fault ≡ None → AllServed jobs c.turns (start r) (log_in report)
     served none = record {
-      loads = λ k job is loads. well.answered k job is ((of_job IsAnsweredRightly ran.jobs k job answered is).load loads) (over none k job is);
+      loads = λ k job is loads. well.answered k job is ((of_job IsAnsweredRightly jobs k job answered is).load loads) (over none k job is);
       checks = λ k job is checks. exactly k job is checks (over none k job is);
-      telegrams = each_sent c.turns (log_in report) idle.nothing_failed (ran.told.sent none);
+      telegrams = each_sent c.turns (log_in report) idle.nothing_failed (told.sent none);
     }
 
     abbrev record_now : List Entry
     record_now = record_of (start r) r.events
 
     never_refused : (three : List Try) → length three ≡ 3 → tries record_now ≡ reverse three → ⊥
-    never_refused three are = no_three three (tries record_now) are (laws.reached ran.jobs c.turns (start r) r.events (log_in report) each_served devices power by calm short)
+    never_refused three are = no_three three (tries record_now) are (laws.reached jobs c.turns (start r) r.events (log_in report) each_served devices power by calm short)
 
-    on_its_line : first_elsewhere ran.jobs (first_tunnel record_now) ≡ None
+    on_its_line : first_elsewhere jobs (first_tunnel record_now) ≡ None
     on_its_line =
-        none_elsewhere c.project c.before ran.jobs u.devices (first_tunnel record_now)
-        (subst (λ (a : IndAddr). IfSome (first_tunnel record_now) (λ tunnel. tunnel ≡ a)) (ap (λ (t : Tunnel). t.gateway.tunnel) ran.run.begins.tunnel) (laws.told (start r) r.events ran.run.fresh ran.run.legal))
+        none_elsewhere c.project c.before jobs u.devices (first_tunnel record_now)
+        (subst (λ (a : IndAddr). IfSome (first_tunnel record_now) (λ tunnel. tunnel ≡ a)) (ap (λ (t : Tunnel). t.gateway.tunnel) run.begins.tunnel) (laws.told (start r) r.events run.fresh run.legal))
 
-    ends : (o : Option HubFault) → report.fault ≡ o → FaultRight ran.jobs (log_in report) record_now o → EndsSo ran.jobs c.turns r (log_in report) o
+    ends : (o : Option HubFault) → report.fault ≡ o → FaultRight jobs (log_in report) record_now o → EndsSo jobs c.turns r (log_in report) o
     ends None e right = served e
     ends (Some (NoMemory want)) e right = tt
     ends (Some Flooded) e right = by_reads (some_reads c.turns) refl
       where
-        by_reads : (b : Bool) → some_reads c.turns ≡ b → FloodsSo ran.jobs c.turns r (log_in report)
+        by_reads : (b : Bool) → some_reads c.turns ≡ b → FloodsSo jobs c.turns r (log_in report)
         by_reads true some = (some, right)
-        by_reads false none = absurd (unflooded c r report words ran laws.load_costs laws.check_costs (laws.unread ran.jobs c.turns (start r) r.events (log_in report) each_served devices power by calm short none) right)
-    ends (Some LinkFailed) e right = ran.told.last e
-    ends (Some (GatewayRefused three)) e right = never_refused three (ran.told.tries three e) right
-    ends (Some (WrongLine device tunnel)) e right = none_wrong ran.jobs record_now device tunnel on_its_line right
+        by_reads false none = absurd (unflooded c.project jobs words c.turns r (log_in report) planned few_jobs few_turns told.leaves laws.load_costs laws.check_costs (laws.unread jobs c.turns (start r) r.events (log_in report) each_served devices power by calm short none) right)
+    ends (Some LinkFailed) e right = last e
+    ends (Some (GatewayRefused three)) e right = never_refused three (told.tries three e) right
+    ends (Some (WrongLine device tunnel)) e right = none_wrong jobs record_now device tunnel on_its_line right
 
-    ends_now : EndsSo ran.jobs c.turns r (log_in report) report.fault
-    ends_now = ends report.fault refl ran.told.fault
-
-    pub nothing_fails : (ending : Status) → AnswersWith ending report → NothingFails ending ran.jobs c.turns r report
-    nothing_fails ending answered = record {
+    pub nothing_fails : NothingFails jobs c.turns r (log_in report) report.fault
+    nothing_fails = record {
       prompt = idle;
-      refuses = laws.refuses ran.jobs c.turns (start r) r.events (log_in report) each_served devices power by calm short;
-      ends = ends_now;
-      exits = may_end ran.jobs c.turns r report ending ends_now answered;
+      refuses = laws.refuses jobs c.turns (start r) r.events (log_in report) each_served devices power by calm short;
+      ends = ends report.fault refl told.fault;
     }
-
-  pub ends_undisturbed : (ending : Status) → AnswersWith ending report → EndsUndisturbed ending c r report
-  ends_undisturbed ending answered = record { words = words; are = ran.words_are; jobs = ran.jobs; planned = ran.planned; holds = λ u. nothing_fails u ending answered }

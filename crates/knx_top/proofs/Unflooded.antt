@@ -1,5 +1,5 @@
 -- A run that nothing disturbs and whose group telegrams ask for no values isn't flooded: its jobs and its telegrams bring fewer datagrams.
-use Rattle.std.proofs.Common.{◌≡◌, ◌≢◌, ◌⊎◌, ℕ, zero, suc, ◌+◌, ◌*◌, ◌/◌, ◌-◌, ◌≤◌, Bool, true, false, List, [], ◌∷◌, length, slice_get, Option, Some, None, sym, ap, subst, ◌∙◌, inl, inr, arith}
+use Rattle.std.proofs.Common.{ℕ, ◌≤◌, List, [], ◌∷◌, length, sym, ap, subst, ◌∙◌, arith}
 use Rattle.bus_sim.specs.RunNow.{RunNow, start}
 use Rattle.call_words.specs.declared.job_word.JobKind.{JobKind}
 use Rattle.call_words.specs.declared.job_word.JobKind.TheVariants.{Load, Check}
@@ -11,16 +11,17 @@ use Rattle.knx_model.specs.LoadPlan.{check_plan, load_plan}
 use Rattle.knx_model.specs.Meaning.{Installation, meaning}
 use Rattle.knx_model.specs.Plans.{Plan, Over, Asks}
 use Rattle.line_model.specs.declared.log.LogEntry.{LogEntry}
-use Rattle.line_model.specs.declared.log.Report.{Report}
-use Rattle.line_model.specs.Faults.{IsFlooded, flood}
-use Rattle.line_model.specs.Leaves.{IsFinished, StaysOpen}
-use Rattle.line_model.specs.Log.{Job, job_of, state_of}
-use Rattle.line_model.specs.Record.{entries, placed, record_of}
+use Rattle.line_model.specs.declared.group.GroupTurn.{GroupTurn}
+use Rattle.line_model.specs.Faults.{IsFlooded}
+use Rattle.line_model.specs.Leaves.{LeavesRightly, StaysOpen}
+use Rattle.line_model.specs.Log.{Job}
+use Rattle.line_model.specs.Record.{placed, record_of}
 use Rattle.line_model.proofs.Entries.{entries_placed}
 use Rattle.table_compiler.proofs.Lengths.{length-object_list}
 use Rattle.table_compiler.specs.Images.{IsImage}
 use Rattle.call_parts.specs.Jobs.{ArePlanned, IsPlanned, plan_of}
-use Rattle.knx_top.specs.Ran.{Commission, Ran, log_in}
+use Rattle.call_parts.specs.Options.{most_jobs}
+use Rattle.call_parts.specs.Turns.{most_turns}
 use Rattle.std.specs.List.{AllByRecursion}
 
 -- ---- what a job brings at most
@@ -71,16 +72,14 @@ module _ (loads : LoadsCost) (checks : ChecksCost) where
 
 -- ---- all of them
 
-module _ (c : Commission) (r : RunNow) (report : Report) (words : List JobWord) (ran : Ran c r report words) where
+module _ (project : Installation) (jobs : List Job) (words : List JobWord) (turns : List GroupTurn) (r : RunNow) (log : List LogEntry) (planned : ArePlanned project jobs words) (few_jobs : length jobs ≤ most_jobs) (few_turns : length turns ≤ most_turns) (leaves : LeavesRightly jobs turns log (placed (start r) r.events)) where
   -- while a job has no end, the channel isn't asked to end
-  stays : IsFlooded ran.jobs (log_in report) (record_of (start r) r.events) → StaysOpen (record_of (start r) r.events)
-  stays flooded = subst StaysOpen (entries_placed (start r) r.events) (ran.told.leaves.unfinished (λ finished. flooded.early.2 (finished.jobs_over flooded.early.0 flooded.early.1)))
+  stays : IsFlooded jobs log (record_of (start r) r.events) → StaysOpen (record_of (start r) r.events)
+  stays flooded = subst StaysOpen (entries_placed (start r) r.events) (leaves.unfinished (λ finished. flooded.early.2 (finished.jobs_over flooded.early.0 flooded.early.1)))
 
-  pub unflooded : LoadsCost → ChecksCost → ComeForWrites ran.jobs c.turns (record_of (start r) r.events) → IsFlooded ran.jobs (log_in report) (record_of (start r) r.events) → ⊥
+  pub unflooded : LoadsCost → ChecksCost → ComeForWrites jobs turns (record_of (start r) r.events) → IsFlooded jobs log (record_of (start r) r.events) → ⊥
   unflooded loads checks come flooded =
-      let costs : AllCost ran.jobs most = λ k job is. each_of (λ (j : Job). CostsAtMost j.plan most) ran.jobs (each_costs loads checks c.project ran.jobs words ran.planned) k job is in
+      let costs : AllCost jobs most = λ k job is. each_of (λ (j : Job). CostsAtMost j.plan most) jobs (each_costs loads checks project jobs words planned) k job is in
       let few = come most costs (stays flooded) in
       let all = flooded.count in
-      let jobs = ran.few_jobs in
-      let turns = ran.few_turns in
-      omega (arith, few, all, jobs, turns)
+      omega (arith, few, all, few_jobs, few_turns)

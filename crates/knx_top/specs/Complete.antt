@@ -20,14 +20,15 @@ use Rattle.bus_sim.specs.Loaded.{BusNow}
 use Rattle.calm_law.specs.CalmCounts.{some_reads}
 use Rattle.line_model.specs.Faults.{datagrams_taken, flood}
 use Rattle.line_model.specs.Lines.{script_of}
+use Rattle.line_model.specs.Log.{Job}
 use Rattle.line_model.specs.Record.{record_of}
 use Rattle.line_model.specs.StartOf.{is_on_bus}
 use Rattle.line_model.specs.Undisturbed as line
 use Rattle.report_text.specs.LineStatus.{line_status}
 use Rattle.knx_top.specs.Dialled.{FailsToOpen}
 use Rattle.call_parts.specs.Ending.{end_text, service_status, service_text}
-use Rattle.call_parts.specs.Jobs.{AreJobs}
-use Rattle.knx_top.specs.Ran.{Commission, Left, OfItsJobs, log_in}
+use Rattle.call_parts.specs.Jobs.{AreJobs, ArePlanned}
+use Rattle.knx_top.specs.Ran.{Commission, Left, log_in}
 use Rattle.knx_top.specs.Undisturbed.{AllServed}
 use Rattle.knx_top.specs.commands.Big.{BigWords}
 use Rattle.call_parts.specs.Project.{ProjectWords, project_tests}
@@ -113,6 +114,14 @@ pub record NothingDisturbs (c : Commission) : Type 0 where
 pub record IsWithinBounds (turns : List GroupTurn) (r : RunNow) : Type 0 where
   pub unflooded : some_reads turns ≡ true → datagrams_taken (record_of (start r) r.events) < flood
   pub early : ¬ IsAtEnd r
+
+-- P holds of the jobs of the run: those that the words name, or a load of each device, with the plans of the new project's compiled images
+pub record OfItsJobs (c : Commission) (P : List Job → Type 0) : Type 0 where
+  pub words : List JobWord
+  pub are : AreJobs c.options.jobs c.project words
+  pub jobs : List Job
+  pub planned : ArePlanned c.project jobs words
+  pub holds : P jobs
 
 -- the whole report was written, all was served, and the status is 0, or 1 where a check was refused
 pub record IsServedWhole (c : Commission) (after : Left) (out out' : SinkNow) (ending : Status) : Type 0 where

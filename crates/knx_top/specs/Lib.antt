@@ -1,7 +1,6 @@
-pub mod Ran
 pub mod Shown
 pub mod Undisturbed
-pub mod Headline
+pub mod Ran
 pub mod Begun
 pub mod Dialled
 pub mod commands

@@ -2,16 +2,15 @@
 -- at every moment, whatever is lost, repeated or cut, each device has its starting content, or is stopped, or runs what the new project says; each
 -- group telegram acts on exactly the objects that the running configuration links; `done` is told only where the new project's runs; no device has
 -- two downloaders at once, and no tunnelling request acts twice.
-use Rattle.std.specs.Prelude.{ℕ, IfSome, List, [], None, Option, Some, ◌≡◌, ◌⊎◌, ◌≤◌, length, min, reverse, ◌^◌, ◌-◌}
+use Rattle.std.specs.Prelude.{ℕ, IfSome, List, [], None, Option, Some, ◌≡◌, ◌⊎◌, ◌≤◌, length, reverse}
 use Rattle.line_model.specs.ActedOnce.{ActedOnce}
 use Rattle.line_model.specs.Telegrams.{ActsByProject, TelegramsActRight}
-use Rattle.line_model.specs.Log.{AllOver, Job, TakenInOrder, TurnUnfinished}
+use Rattle.line_model.specs.Log.{AllOver, IsLog, Job, OneDownloaderPerDevice, TakenInOrder, TurnUnfinished}
 use Rattle.call_parts.specs.Jobs.{AreJobs, ArePlanned}
 use Rattle.call_parts.specs.Turns.{most_turns, turns_of}
 use Rattle.bus_sim.specs.Loaded.{BusNow}
 use Rattle.line_model.specs.StartOf.{BusOf}
 use Rattle.line_model.specs.Tunnel.{Commissions}
-use Rattle.line_model.specs.Faults.{FaultRight}
 use Rattle.line_model.specs.Follows.{Follows}
 use Rattle.line_model.specs.declared.group.GroupTurn.{GroupTurn}
 use Rattle.hub_core.specs.Closed.{HasClosed}
@@ -19,15 +18,15 @@ use Rattle.hub_core.specs.Commissioned.{WantsAtFirst}
 use Rattle.line_model.specs.declared.fault.HubFault.{HubFault}
 use Rattle.knx_model.specs.Meaning.{Installation}
 use Rattle.bus_sim.specs.Ended.{IsAtEnd}
-use Rattle.line_model.specs.Headline.{IsDisciplined}
+use Rattle.line_model.specs.Headline.{Keeps}
 use Rattle.line_model.specs.Fresh.{IsFresh}
 use Rattle.line_model.specs.Legal.{IsLegal}
-use Rattle.hub_core.specs.Heard.{HeardOf}
+use Rattle.hub_core.specs.Heard.{HeardIn}
+use Rattle.hub_core.specs.Promises.{DropsIn, FaultRightIn, HastensIn, IsRightOver, LeavesOver}
 use Rattle.hub_core.specs.Seats.{IsOfWorkers}
-use Rattle.hub_core.specs.Thorough.{IsThorough}
+use Rattle.hub_core.specs.Thorough.{IsThoroughOver}
 use Rattle.call_words.specs.declared.job_word.JobWord.{JobWord}
-use Rattle.line_model.specs.Haste.{LosesNoTimes}
-use Rattle.line_model.specs.Leaves.{LeavesRightly}
+use Rattle.line_model.specs.LinkStory.{Full, Story, record_in}
 use Rattle.line_model.specs.declared.fault.HubFault.TheVariants.{GatewayRefused, LinkFailed, NoMemory}
 use Rattle.line_model.specs.declared.fault.Try.{Try}
 use Rattle.line_model.specs.declared.log.LogEntry.{LogEntry}
@@ -37,10 +36,9 @@ use Rattle.knx_model.specs.Outside.{Rose}
 use Rattle.bus_sim.specs.RunNow.{RunNow, start}
 use Rattle.knx_model.specs.declared.script.ScriptLine.{ScriptLine}
 use Rattle.call_parts.specs.Options.{SimOptions, most_jobs, workers_of}
-use Rattle.line_model.specs.Record.{record_of, placed}
 use Rattle.line_model.specs.Lines.{script_of}
-use Rattle.line_model.specs.ClientView.{indications}
-use Rattle.line_model.specs.Dropped.{dropped}
+use Rattle.tunnel_link.specs.Rights.{WhereTold}
+use Rattle.knx_top.specs.Undisturbed.{IsUndisturbed, NothingFails}
 
 -- ---- what a run is begun with
 
@@ -78,7 +76,7 @@ pub record KeepsPromises (c : Commission) (jobs : List Job) (r : RunNow) (log : 
   -- no tunnelling request acts twice
   pub once : ActedOnce (start r) r.events
 
--- ---- what is told: by record and log alone
+-- ---- what is told, over any link
 
 -- the log as the definitions have it, the newest entry first
 abbrev pub log_in : Report → List LogEntry
@@ -88,33 +86,37 @@ log_in report = reverse report.log
 abbrev pub HasThreeTries : Option HubFault → Type 0
 HasThreeTries fault = (tries : List Try) → fault ≡ Some (GatewayRefused tries) → length tries ≡ 3
 
-pub record IsTold (c : Commission) (jobs : List Job) (r : RunNow) (report : Report) : Type 0 where
-  -- no device has two downloaders at once, the log tells no end that the record doesn't show, and all that is sent is right
-  pub disciplined : IsDisciplined jobs c.turns (length r.events) (placed (start r) r.events) (log_in report)
+-- all that is told of a run by so many workers, with these jobs and group telegrams, by what its link told: its events, or its record, or nothing
+pub record IsToldOver (workers : ℕ) (turns : List GroupTurn) (jobs : List Job) (story : Story) (report : Report) : Type 0 where
+  -- the client keeps the discipline of the line, and so the headline holds: no device has two downloaders at once, the log tells no end that the record doesn't
+  -- show, and all that is sent is right
+  pub keeps : Keeps jobs turns story (log_in report)
+  pub right : IsRightOver jobs story (log_in report)
+  -- it loses no time, so far as its link's clock allows to say: a poll lasts at most 100 ms, a heartbeat is in time, and no time passes while a job that has
+  -- begun has something to send that can be sent
+  pub hastens : HastensIn jobs turns (log_in report) story
   -- an end is told only where no attempt of its job runs, no attempt begins once the last one has decided the job, and each loss of the channel is
   -- followed by what is due to the gateway then, and by nothing more
-  pub thorough : IsThorough jobs (placed (start r) r.events) (log_in report)
-  -- it loses no time: a poll lasts at most 100 ms, a heartbeat is in time, and no time passes while a job that has begun has something to send that
-  -- can be sent
-  pub hastens : LosesNoTimes jobs c.turns (log_in report) (placed (start r) r.events)
+  pub thorough : IsThoroughOver jobs story (log_in report)
   -- the open channel isn't asked to end before all jobs are over, and then once, after the listening
-  pub leaves : LeavesRightly jobs c.turns (log_in report) (placed (start r) r.events)
-  -- a fault has its cause in the record, want of memory and a failed link aside, whose cause the line tells; and without one there is none in the end
-  pub fault : FaultRight jobs (log_in report) (record_of (start r) r.events) report.fault
+  pub leaves : LeavesOver jobs turns story (log_in report)
+  -- a fault has its cause in the record, want of memory and a failed link aside, whose cause the link tells, and refused connects are told of three tries; without
+  -- a fault there is none in the end, every job has its end, every group telegram is told, and the closing is over
+  pub fault : FaultRightIn jobs (log_in report) report.fault (record_in story)
   pub tries : HasThreeTries report.fault
-  -- the link failed only at the last time of 64 bits
-  pub last : report.fault ≡ Some LinkFailed → IsAtEnd r
   pub ended : report.fault ≡ None → AllOver jobs (log_in report)
-  pub sent : report.fault ≡ None → ¬ TurnUnfinished c.turns (log_in report)
-  -- each job that was taken was the first that was free
+  pub sent : report.fault ≡ None → ¬ TurnUnfinished turns (log_in report)
+  pub closed : report.fault ≡ None → WhereTold (HasClosed (log_in report)) story
+  -- over every link the log is one of the jobs, no device has two downloaders at once, and each job that was taken was the first that was free
+  pub place : ℕ
+  pub form : IsLog jobs turns place (log_in report)
+  pub alone : OneDownloaderPerDevice jobs (log_in report)
   pub in_order : TakenInOrder jobs (log_in report)
-  pub closed : report.fault ≡ None → HasClosed (log_in report) (placed (start r) r.events)
-  -- what was heard is told, in order, but for what was missed
-  pub heard : HeardOf report.fault report.missed report.heard (reverse (indications (record_of (start r) r.events)))
   -- what was done was done by one of the workers, or by the group thread
-  pub seats : IsOfWorkers c.workers (log_in report)
-  -- a number of 64 bits, which stands still at its greatest
-  pub dropped : report.dropped ≡ min (dropped (record_of (start r) r.events)) (2 ^ 64 - 1)
+  pub seats : IsOfWorkers workers (log_in report)
+  -- what was heard is told, in order, but for what was missed; and what was dropped, a number of 64 bits, which stands still at its greatest
+  pub heard : HeardIn report.fault report.missed report.heard (record_in story)
+  pub dropped : DropsIn report.dropped (record_in story)
 
 -- ---- all of it
 
@@ -128,15 +130,14 @@ pub record Ran (c : Commission) (r : RunNow) (report : Report) (words : List Job
   pub few_jobs : length jobs ≤ most_jobs
   pub few_turns : length c.turns ≤ most_turns
   pub promises : KeepsPromises c jobs r (log_in report)
-  pub told : IsTold c jobs r report
-
--- P holds of the jobs of the run: those that the words name, or a load of each device, with the plans of the new project's compiled images
-pub record OfItsJobs (c : Commission) (P : List Job → Type 0) : Type 0 where
-  pub words : List JobWord
-  pub are : AreJobs c.options.jobs c.project words
-  pub jobs : List Job
-  pub planned : ArePlanned c.project jobs words
-  pub holds : P jobs
+  -- the simulated line tells its start and its events
+  pub told : IsToldOver c.workers c.turns jobs (Full (start r) r.events) report
+  -- the link failed only at the last time of 64 bits
+  pub last : report.fault ≡ Some LinkFailed → IsAtEnd r
+  -- Where no line of the script disturbs, and the jobs' devices are on the line, nothing fails, and the run isn't broken off but for want of memory, by a
+  -- flood of datagrams where a group telegram asks for values, or at the last time of 64 bits: each load is told done, each check done exactly where an
+  -- earlier job loads its device or its device began with the new image, and each group telegram sent.
+  pub undisturbed : IsUndisturbed c.project c.before c.script jobs → NothingFails jobs c.turns r (log_in report) report.fault
 
 -- ---- what a call leaves of it
 

@@ -7,14 +7,13 @@ use Rattle.std.specs.Prelude.{◌≡◌, ◌≢◌, ◌⊎◌, ℕ, true, false,
 use Rattle.std.specs.List.{AllByRecursion}
 use Rattle.bus_sim.specs.Ended.{IsAtEnd}
 use Rattle.bus_sim.specs.RunNow.{RunNow, start}
-use Rattle.call_words.specs.declared.status.Status.{Status}
-use Rattle.call_words.specs.declared.status.Status.TheVariants as status
+use Rattle.knx_model.specs.declared.script.ScriptLine.{ScriptLine}
+use Rattle.knx_model.specs.Meaning.{Installation}
 use Rattle.line_model.specs.declared.fault.HubFault.{HubFault}
 use Rattle.line_model.specs.declared.fault.HubFault.TheVariants.{NoMemory, LinkFailed, GatewayRefused, Flooded, WrongLine}
 use Rattle.line_model.specs.declared.group.GroupTurn.{GroupTurn}
 use Rattle.line_model.specs.declared.log.LogEntry.{LogEntry}
 use Rattle.line_model.specs.declared.log.LogWhat.TheVariants.{Sent}
-use Rattle.line_model.specs.declared.log.Report.{Report}
 use Rattle.line_model.specs.Faults.{IsFlooded}
 use Rattle.line_model.specs.Lines.{script_of}
 use Rattle.line_model.specs.Log.{Job, job_of, turn_of}
@@ -26,13 +25,12 @@ use Rattle.line_model.specs.World.{World}
 use Rattle.calm_law.specs.CalmChecks.{RunsByThen}
 use Rattle.calm_law.specs.CalmCounts.{some_reads}
 use Rattle.calm_law.specs.CalmEnds.{Told, IsToldDone, IsToldRefused}
-use Rattle.knx_top.specs.Ran.{Commission, OfItsJobs, log_in}
 
 -- ---- the script and the projects
 
-pub record IsUndisturbed (c : Commission) (jobs : List Job) : Type 0 where
-  pub says : line.IsUndisturbed (script_of c.script)
-  pub devices : AllByRecursion (λ (job : Job). is_on_bus c.project c.before job.device.raw ≡ true) jobs
+pub record IsUndisturbed (project before : Installation) (script : List ScriptLine) (jobs : List Job) : Type 0 where
+  pub says : line.IsUndisturbed (script_of script)
+  pub devices : AllByRecursion (λ (job : Job). is_on_bus project before job.device.raw ≡ true) jobs
 
 -- ---- what comes of it
 
@@ -54,22 +52,7 @@ EndsSo jobs turns r log (Some LinkFailed) = IsAtEnd r
 EndsSo jobs turns r log (Some (GatewayRefused tries)) = ⊥
 EndsSo jobs turns r log (Some (WrongLine device tunnel)) = ⊥
 
--- the status of its call: 0 or 1, where it wasn't broken off; else the text couldn't be written, there was no memory, it was flooded so, or the link failed so
-abbrev pub MayEndWith : List Job → List GroupTurn → RunNow → Report → Status → Type 0
-MayEndWith jobs turns r report status.Done = report.fault ≡ None
-MayEndWith jobs turns r report status.SomeFailed = report.fault ≡ None
-MayEndWith jobs turns r report status.Write = Unit {0}
-MayEndWith jobs turns r report (status.NoMemory want) = Unit {0}
-MayEndWith jobs turns r report status.Flooded = FloodsSo jobs turns r (log_in report)
-MayEndWith jobs turns r report status.Link = IsAtEnd r
-MayEndWith jobs turns r report _ = ⊥
-
-pub record NothingFails (ending : Status) (jobs : List Job) (turns : List GroupTurn) (r : RunNow) (report : Report) : Type 0 where
-  pub prompt : IsPrompt jobs (start r) (log_in report) r.events
-  pub refuses : RefusesRightly jobs (start r) r.events (log_in report)
-  pub ends : EndsSo jobs turns r (log_in report) report.fault
-  pub exits : MayEndWith jobs turns r report ending
-
--- of a call with this status
-abbrev pub EndsUndisturbed : Status → Commission → RunNow → Report → Type 0
-EndsUndisturbed ending c r report = OfItsJobs c (λ jobs. IsUndisturbed c jobs → NothingFails ending jobs c.turns r report)
+pub record NothingFails (jobs : List Job) (turns : List GroupTurn) (r : RunNow) (log : List LogEntry) (fault : Option HubFault) : Type 0 where
+  pub prompt : IsPrompt jobs (start r) log r.events
+  pub refuses : RefusesRightly jobs (start r) r.events log
+  pub ends : EndsSo jobs turns r log fault

@@ -23,11 +23,6 @@ ghost use Rattle.knx_top.specs.commands.Sim.{RunsScript, SimWords, commission_to
 ghost use Rattle.knx_top.specs.commands.Migrate.{IsMigratedText};
 ghost use Rattle.knx_top.specs.commands.Tables.{IsTablesText};
 
-use calm_law::{
-    each_check_is_exact, nothing_fails_on_a_calm_line, plans_cost_by_their_lists,
-    the_gateway_tells_its_own_address, undisturbing_scripts_are_calm,
-};
-
 /// Where the files of `check`, `tables` or `migrate` are told, no test fails and no count rose, what the clauses of `knx` say comes to this: the
 /// whole text is written with status 0, or there was no memory. So it is with `decode`, where the word is one of octets; and with `sim`
 /// and `big`: what is asked for is run, and the whole report, or its sums, is written with its status, or there was no memory. And so with
@@ -55,23 +50,11 @@ pub fn valid_input_is_served()
     ensures { (words : SimWords) (files files' : FilesNow) (before : BusNow) (after : Left) (out out' : SinkNow) (ending : Status) → IsValidRun files.file words → NothingDisturbs (commission_told words (sim_texts_told files.file words)) → NoneRose files files' out out'
         → IsWithinBounds (commission_told words (sim_texts_told files.file words)).turns after.line.run
         → RunsScript words files files' before after (Replies out out' ending) → IsRunServed (commission_told words (sim_texts_told files.file words)) after out out' ending }
-{
-    undisturbing_scripts_are_calm();
-    nothing_fails_on_a_calm_line();
-    each_check_is_exact();
-    the_gateway_tells_its_own_address();
-    plans_cost_by_their_lists();
-}
+{}
 
 /// A run of `big` is served so, as nothing disturbs it: where it isn't as long as 64 bits can tell, each device that is made is loaded and runs
 /// what the project says of it at the end, the whole line tells so, and the status is 0; or there was no memory.
 pub fn each_made_line_is_loaded()
     ensures { (devices start : List ℕ) (words : BigWords) (before : BusNow) (after : Left) (out out' : SinkNow) (ending : Status) → big_words (devices ∷ start ∷ []) ≡ Some words → ¬ Rose out.faults out'.faults → ¬ IsAtEnd after.line.run
         → RunsMade words before after (Replies out out' ending) → IsLoadedWhole words out out' ending }
-{
-    undisturbing_scripts_are_calm();
-    nothing_fails_on_a_calm_line();
-    each_check_is_exact();
-    the_gateway_tells_its_own_address();
-    plans_cost_by_their_lists();
-}
+{}

@@ -7,6 +7,7 @@ ghost use Rattle.hub_work.specs.Requests.{IsTurnInRange};
 ghost use Rattle.hub_work.specs.declared.job.HubJob.{HubJob as JobOfHub};
 ghost use Rattle.line_model.specs.LinkStory.{IsNewLink};
 ghost use Rattle.line_model.specs.Watched.{watch_in};
+ghost use Rattle.knx_top.specs.Ran.{HasThreeTries};
 ghost use Rattle.knx_top.specs.Watched.{TellsWatcher};
 
 use hub_work::HubJob;
@@ -64,6 +65,7 @@ pub fn commission<R: Threads + Wait + Sync, L: Link + Send, G: Gate + Sync, W: W
     requires sendable { AllByRecursion IsTurnInRange run.groups }
     requires new { IsNewLink (L.story run.link) }
     ensures commissioned { Commissioned L.story L.place L.script L.faults run.workers run.jobs run.groups run.link result.0 result.1 }
+    ensures tries { HasThreeTries result.1.fault }
     ensures watched { TellsWatcher (map (λ (job : JobOfHub). job.device) run.jobs) run.quiet result.1 (watch_in W.watch watch.old) (watch_in W.watch watch.new) }
 {
     let Run {

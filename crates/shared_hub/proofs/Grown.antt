@@ -1,13 +1,13 @@
 -- What was reported stays shown, and its place has been, however the link's story goes on.
-use Rattle.std.proofs.Common.{◌≡◌, ℕ, suc, ◌≤◌, ◌<◌, List, [], ◌∷◌, ◌++◌, length, reverse, Option, Some, None, refl, sym, ap, subst, ◌∙◌, arith}
+use Rattle.std.proofs.Common.{◌≡◌, ℕ, ◌≤◌, List, [], ◌∷◌, ◌++◌, length, reverse, Option, Some, None, refl, sym, ap, subst, arith}
 use Rattle.line_model.specs.declared.outside.watcher.JobProgress.{JobProgress}
 use Rattle.line_model.specs.LinkStory.{Story, Untold, Recorded, Full, places_in}
 use Rattle.line_model.specs.Log.{Job, job_of, state_of}
-use Rattle.line_model.specs.Moments.{Moment, answers, between, course, moments, session, stretches}
+use Rattle.line_model.specs.Moments.{Moment, answers, course, session, stretches}
 use Rattle.line_model.specs.Progress.{Reaches}
 use Rattle.line_model.specs.Record.{Entry, Item, Placed, counted, item_at, placed, placed_if}
 use Rattle.line_model.specs.Told.{last_stretch}
-use Rattle.line_model.specs.Watched.{EachShown, HasGone, Logged, Notice, Reported, ShowsProgress, entries_in}
+use Rattle.line_model.specs.Watched.{EachShown, Logged, Notice, Reported, ShowsProgress, entries_in}
 use Rattle.line_model.specs.World.{Event, World, now, replay}
 use Rattle.tunnel_link.specs.Adds.{place_of}
 use Rattle.tunnel_link.specs.Goes.{GoesOn}

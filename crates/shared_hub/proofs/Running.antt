@@ -19,7 +19,7 @@ use Rattle.tunnel_link.specs.Rights.{FailsWhere}
 use Rattle.tunnel_link.proofs.Stories.{goes_again, stays}
 use Rattle.hub_work.specs.Books.{AreJobsOf}
 use Rattle.hub_work.specs.Downloaders.{Task}
-use Rattle.hub_core.specs.Commissioned.{TellsRun, WantsAtFirst, IsNoMemory, log_of}
+use Rattle.hub_core.specs.Commissioned.{TellsRun, WantsAtFirst, IsNoMemory}
 use Rattle.hub_core.specs.Heard.{HeardIn}
 use Rattle.hub_core.specs.Left.{AllDone as HubDone}
 use Rattle.hub_core.specs.Seats.{IsOfWorkers}

@@ -1,5 +1,5 @@
 -- A hub of which no more changes than how many indications it counts as missed stays as it is in all else; and hubs that go on, whatever they count as missed.
-use Rattle.std.proofs.Common.{◌≡◌, ℕ, length, refl, sym, ap, subst}
+use Rattle.std.proofs.Common.{◌≡◌, length, refl, sym, ap, subst}
 use Rattle.line_model.specs.declared.outside.link_counts.LinkCounts.{LinkCounts}
 use Rattle.line_model.specs.Lines.{Script}
 use Rattle.line_model.specs.LinkStory.{Story}

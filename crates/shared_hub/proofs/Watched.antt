@@ -6,10 +6,9 @@ use Rattle.std.proofs.lemmas.Bool.Decides.{nat_tests}
 use Rattle.knx_model.specs.declared.address.IndAddr.{IndAddr}
 use Rattle.line_model.specs.declared.log.LogEntry.{LogEntry}
 use Rattle.line_model.specs.declared.outside.watcher.JobProgress.{JobProgress}
-use Rattle.line_model.specs.LinkStory.{IsPlace, Story, Untold as NoRecord, Recorded, Full, places_in}
+use Rattle.line_model.specs.LinkStory.{IsPlace, Story, Untold as NoRecord, Recorded, Full}
 use Rattle.line_model.specs.Log.{Job, numbered_from_one}
-use Rattle.line_model.specs.Record.{Placed}
-use Rattle.line_model.specs.Watched.{ASecondAfter, EachShown, IsRunning, Notice, Logged, Reported, ShowsProgress, SinceThen, Tells, Told, Untold, Watch, Watches, last_told, second}
+use Rattle.line_model.specs.Watched.{ASecondAfter, IsRunning, Notice, Logged, Reported, ShowsProgress, SinceThen, Tells, Told, Untold, Watch, Watches, last_told, second}
 use Rattle.device_reservation.proofs.Numbered.{from_1, of_all, unwritten, within, written}
 use Rattle.tunnel_link.specs.Adds.{place_of}
 use Rattle.tunnel_link.specs.Goes.{GoesOn}
@@ -20,7 +19,7 @@ use Rattle.shared_hub.specs.declared.site.Step.{Step}
 use Rattle.shared_hub.specs.declared.site.Step.TheVariants.{Took}
 use Rattle.shared_hub.specs.declared.site.Step.TheVariants as step
 use Rattle.shared_hub.specs.Runs.{WatchesSo}
-use Rattle.shared_hub.specs.Watchers.{AddsOne, EachUpto, IsWatched, IsWatchedSo, KeepsTimes, LogsBy, TellsInTime, TellsOrNot, WatcherSeen, is_time}
+use Rattle.shared_hub.specs.Watchers.{AddsOne, IsWatched, IsWatchedSo, KeepsTimes, LogsBy, TellsInTime, TellsOrNot, WatcherSeen, is_time}
 use Rattle.shared_hub.proofs.Grown.{shown_grown, upto_grown}
 
 -- ---- it begins

@@ -1,5 +1,5 @@
 -- A site: what contracts see of it, its list, and what its type keeps: all that holds of a hub between any two calls, whoever made them.
-use Rattle.std.specs.Prelude.{◌≡◌, ℕ, List, [], ◌∷◌, ◌++◌, length, map, reverse, Option, Some, None}
+use Rattle.std.specs.Prelude.{◌≡◌, List, [], ◌∷◌, ◌++◌, length, map, reverse, Option, Some, None}
 use Rattle.std.specs.declared.snapshot.Snapshot.{Snapshot}
 use Rattle.atomic_table.specs.Seated.{TableId}
 use Rattle.line_model.specs.declared.fault.HubFault.{HubFault}

@@ -2,10 +2,9 @@
 use Rattle.std.proofs.Common.{◌≡◌, ◌⊎◌, None, List, Result, refl, sym, subst, inl, inr}
 use Rattle.discovery.specs.declared.about.About.{About}
 use Rattle.discovery.specs.declared.inquiry.Inquiry.{Inquiry}
-use Rattle.discovery_ends.specs.Looking.{LookedOver, NotReached}
-use Rattle.line_model.specs.Dialled.{Address, DialerNow}
+use Rattle.discovery_ends.specs.Looking.{LookedOver}
+use Rattle.line_model.specs.Dialled.{DialerNow}
 use Rattle.line_model.specs.declared.outside.link.LinkFault.{LinkFault}
-use Rattle.knx_top.specs.Dialled.{FailsToOpen}
 use Rattle.call_parts.specs.Ending.{Is, report_in, wanting}
 use Rattle.knx_top.specs.commands.Find.{EndsFor, Finds, FindWords, RunsFind, SearchesTo}
 use Rattle.call_parts.specs.declared.ending.End.{End}
@@ -14,9 +13,6 @@ use Rattle.call_parts.specs.declared.searched.SearchEnd.{SearchEnd}
 use Rattle.call_parts.specs.declared.searched.SearchEnd.TheVariants as search
 
 -- ---- what was dialled and searched over
-
-pub not_opened : (at : Address) (before after : DialerNow) → NotReached at before after → FailsToOpen at before after
-not_opened at before after h = record { given = h.given; once = h.once; rose = h.rose; link_back = h.link_back; port_back = h.port_back }
 
 pub searched : (words : FindWords) (before after : DialerNow) (found : List About) (ended : Result (Unit {0}) LinkFault) (asked : Inquiry) (end : SearchEnd) → EndsFor found ended end → (asked ≡ words.inquiry)
     → LookedOver words.at words.inquiry before after found ended → SearchesTo words before after end

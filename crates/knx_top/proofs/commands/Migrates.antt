@@ -1,5 +1,5 @@
 -- The text of a migrated project.
-use Rattle.std.proofs.Common.{◌≡◌, ℕ, ◌≤◌, List, length, Option, Some, None, Result, Ok, Err, refl, sym, ap, subst, arith, ◌∙◌}
+use Rattle.std.proofs.Common.{◌≡◌, ℕ, ◌≤◌, List, length, Option, Some, None, Result, Ok, refl, sym, ap, subst, arith, ◌∙◌}
 use Rattle.call_words.specs.declared.input_file.InputFile.{InputFile}
 use Rattle.call_words.specs.declared.stop.Stop.{Stop}
 use Rattle.call_words.specs.declared.input_file.InputFile.TheVariants as file

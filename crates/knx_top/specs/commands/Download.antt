@@ -8,7 +8,7 @@ use Rattle.call_parts.specs.Jobs.{AreJobs, ArePlanned, seen_job}
 use Rattle.call_parts.specs.Judged.{ComesTo, known_jobs}
 use Rattle.knx_top.specs.declared.commands.download.DownloadNames.{DownloadNames}
 use Rattle.call_parts.specs.declared.ending.End.{End}
-use Rattle.knx_top.specs.Dialled.{FailsToOpen, HasItsCause, IsToldOver, MeansOver}
+use Rattle.knx_top.specs.Dialled.{FailsToOpen, HasItsCause, MeansOver}
 use Rattle.knx_model.specs.Outside.{FilesNow, one_more}
 use Rattle.line_model.specs.declared.group.GroupTurn.{GroupTurn}
 use Rattle.knx_model.specs.Meaning.{Installation}
@@ -26,7 +26,7 @@ use Rattle.call_parts.specs.Ending.{StopsFor, report_in}
 use Rattle.call_parts.specs.Names.{address_of, options_of}
 use Rattle.call_parts.specs.Host.{address_value}
 use Rattle.call_parts.specs.Stops.{is_known, unless_known}
-use Rattle.knx_top.specs.Ran.{log_in}
+use Rattle.knx_top.specs.Ran.{IsToldOver, log_in}
 use Rattle.call_words.specs.declared.stop.Stop.TheVariants as stop
 use Rattle.call_parts.specs.declared.ending.End.TheVariants as ends
 use Rattle.std.specs.Option.{option_map}

@@ -1,75 +1,39 @@
-use Rattle.knx_top.proofs.Calls.{usage_of, check_of, tables_of, migrate_of, decode_of, sim_of, big_of, link_of, download_of, gateway_of, find_of, assign_of, assign_sim_of, line_of, no_run_of, faults_in, ran_of}
-use Rattle.knx_top.proofs.Undisturbed.{Laws, nothing_fails}
-use Rattle.knx_top.proofs.Statuses.{AnswersWith, answers_with}
-use Rattle.knx_top.proofs.Watches.{watches_of}
+use Rattle.std.proofs.Common.{None, Some, ap, refl, sym}
 use Rattle.line_model.specs.Watched.{watch_in}
-use Rattle.std.proofs.Common.{ap}
+use Rattle.knx_top.specs.Command.{command_of}
+use Rattle.knx_top.proofs.Calls.{faults_in, line_of, no_run_of, written}
+use Rattle.knx_top.proofs.Watches.{watches_of}
 use Rattle.knx_top.proofs.call.knx.Goals as goal
 
-pub returns-clause-usage : goal.returns-clause-usage
-returns-clause-usage g c = usage_of _ _ _ _ c.answer.ensures.does
+-- ---- a command
 
-pub returns-clause-check : goal.returns-clause-check
-returns-clause-check g c = λ names. check_of _ _ _ _ names c.answer.ensures.does
+pub returns-in-Some-clause-does : goal.returns-in-Some-clause-does
+returns-in-Some-clause-does g c = rw (sym c.in-Some.ensures, c.report.ensures) (written (command_of c.in-Some.command) _ _ c.run-end.result _ c.run-end.ensures.does c.tell_end-status.ensures.told)
 
-pub returns-clause-tables : goal.returns-clause-tables
-returns-clause-tables g c = λ names. tables_of _ _ _ _ names c.answer.ensures.does
+pub returns-in-Some-clause-line : goal.returns-in-Some-clause-line
+returns-in-Some-clause-line g c = line_of _ _ _ _ (returns-in-Some-clause-does g c)
 
-pub returns-clause-migrate : goal.returns-clause-migrate
-returns-clause-migrate g c = λ names. migrate_of _ _ _ _ names c.answer.ensures.does
+pub returns-in-Some-clause-no_run : goal.returns-in-Some-clause-no_run
+returns-in-Some-clause-no_run g c = no_run_of _ _ _ _ (returns-in-Some-clause-does g c)
 
-pub returns-clause-decode : goal.returns-clause-decode
-returns-clause-decode g c = λ word. decode_of _ _ _ _ word c.answer.ensures.does
+pub returns-in-Some-clause-faults : goal.returns-in-Some-clause-faults
+returns-in-Some-clause-faults g c = faults_in _ _ _ _ (returns-in-Some-clause-does g c)
 
-pub returns-clause-sim : goal.returns-clause-sim
-returns-clause-sim g c = λ names. sim_of _ _ _ _ names c.answer.ensures.does
+pub returns-in-Some-clause-undialled : goal.returns-in-Some-clause-undialled
+returns-in-Some-clause-undialled g c = rw (sym c.in-Some.ensures) c.run-end.ensures.undialled
 
-pub returns-clause-link : goal.returns-clause-link
-returns-clause-link g c = link_of _ _ _ _ c.answer.ensures.does
+pub returns-in-Some-clause-units : goal.returns-in-Some-clause-units
+returns-in-Some-clause-units g c = rw (sym c.in-Some.ensures) c.run-end.ensures.units
 
-pub returns-clause-download : goal.returns-clause-download
-returns-clause-download g c = λ names. download_of _ _ _ _ names c.answer.ensures.does
+pub returns-in-Some-clause-watched : goal.returns-in-Some-clause-watched
+returns-in-Some-clause-watched g c = rw (sym c.in-Some.ensures, c.report.ensures)
+    (watches_of (Some (command_of c.in-Some.command)) (g.F.Files.now c.args.files.now).file _ _ _ (no_run_of (Some (command_of c.in-Some.command)) _ _ _ c.run-end.ensures.does)
+    (λ none. ap (watch_in g.W.Watcher.watch) (c.run-end.ensures.unwatched none)) c.run-end.ensures.watched)
 
-pub returns-clause-gateway : goal.returns-clause-gateway
-returns-clause-gateway g c = λ names. gateway_of _ _ _ _ names c.answer.ensures.does
+-- ---- other words
 
-pub returns-clause-find : goal.returns-clause-find
-returns-clause-find g c = λ names. find_of _ _ _ _ names c.answer.ensures.does
+pub returns-in-None-clause-does : goal.returns-in-None-clause-does
+returns-in-None-clause-does g c = rw (sym c.in-None.ensures) (c.tell.ensures.told, (λ _. refl), record { line = refl; report = refl })
 
-pub returns-clause-assign : goal.returns-clause-assign
-returns-clause-assign g c = λ names. assign_of _ _ _ _ names c.answer.ensures.does
-
-pub returns-clause-assign_sim : goal.returns-clause-assign_sim
-returns-clause-assign_sim g c = λ names. assign_sim_of _ _ _ _ names c.answer.ensures.does
-
-pub returns-clause-big : goal.returns-clause-big
-returns-clause-big g c = λ names. big_of _ _ _ _ names c.answer.ensures.does
-
-pub returns-clause-line : goal.returns-clause-line
-returns-clause-line g c = line_of _ _ _ _ c.answer.ensures.does
-
-pub returns-clause-no_run : goal.returns-clause-no_run
-returns-clause-no_run g c = no_run_of _ _ _ _ c.answer.ensures.does
-
-pub returns-clause-faults : goal.returns-clause-faults
-returns-clause-faults g c = faults_in _ _ _ _ c.answer.ensures.does
-
-pub returns-clause-run : goal.returns-clause-run
-returns-clause-run g c =
-    let laws : Laws = record {
-      calm = c.undisturbing_scripts_are_calm.ensures;
-      prompt = c.nothing_fails_on_a_calm_line.ensures.prompt;
-      refuses = c.nothing_fails_on_a_calm_line.ensures.refuses;
-      ended = c.nothing_fails_on_a_calm_line.ensures.ended;
-      reached = c.nothing_fails_on_a_calm_line.ensures.reached;
-      told = c.the_gateway_tells_its_own_address.ensures;
-      checks = c.each_check_is_exact.ensures;
-      unread = c.nothing_fails_on_a_calm_line.ensures.unread;
-      load_costs = c.plans_cost_by_their_lists.ensures.loads;
-      check_costs = c.plans_cost_by_their_lists.ensures.checks;
-    } in
-    ran_of c.answer.result (AnswersWith c.answer.result) (λ commission r report words ran answered. record { words = words; ran = ran; undisturbed = λ u. nothing_fails laws commission r report words ran u c.answer.result answered }) _ _ _ _
-    (answers_with (g.K.Sink.now c.args.out.now) (g.K.Sink.now c.answer.new.out) c.answer.result) c.answer.ensures.does
-
-pub returns-clause-watched : goal.returns-clause-watched
-returns-clause-watched g c = watches_of _ (g.F.Files.now c.args.files.now).file _ _ _ (no_run_of _ _ _ _ c.answer.ensures.does) (λ none. ap (watch_in g.W.Watcher.watch) (c.answer.ensures.unwatched none)) c.answer.ensures.watched
+pub returns-in-None-clause-faults : goal.returns-in-None-clause-faults
+returns-in-None-clause-faults g c = (None, λ _. refl)

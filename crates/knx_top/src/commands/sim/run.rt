@@ -14,7 +14,7 @@ ghost use Rattle.call_parts.specs.Ending.{report_in};
 ghost use Rattle.call_parts.specs.Jobs.{seen_job};
 ghost use Rattle.call_parts.specs.Names.{options_of};
 ghost use Rattle.call_parts.specs.Stops.{project_in};
-ghost use Rattle.knx_top.specs.Ran.{Commission, FaultsOfLine, HasThreeTries};
+ghost use Rattle.knx_top.specs.Ran.{Commission, FaultsOfLine};
 ghost use Rattle.knx_top.specs.Watched.{TellsTested, TellsWatcher, WhereRun};
 ghost use Rattle.line_model.specs.Polled.{none_failed};
 ghost use Rattle.line_model.specs.Watched.{watch_in};
@@ -27,6 +27,10 @@ use crate::watched::{Run, commission as commission_line};
 use bus_sim::SimBus;
 use call_parts::{End, Reported, SimOptions};
 use call_words::JobWord;
+use calm_law::{
+    each_check_is_exact, nothing_fails_on_a_calm_line, plans_cost_by_their_lists,
+    the_gateway_tells_its_own_address, undisturbing_scripts_are_calm,
+};
 use knx_model::{Image, IndAddr, List};
 use line_model::{Gate, Report, Watcher};
 use std::alloc::Global;
@@ -44,8 +48,7 @@ fn end_of_run(
     log: bool,
 ) -> End
     requires { All (λ (d : Address × Option Compiled). IsSome ((world line.now.run).devices d.0.raw)) devices.now }
-    ensures shows { ShowsRun line.now.run report jobs turns devices.now log result }
-    ensures tries { HasThreeTries report.fault }
+    ensures { ShowsRun line.now.run report jobs turns devices.now log result }
 {
     match all_shown(alloc, line, devices) {
         Ok(devices) => End::Reports(Reported {
@@ -100,6 +103,11 @@ pub fn run<R: Threads + Wait + Sync, G: Gate + Sync, W: Watcher + Send>(
     let (line, report) = commission_line(rt, alloc, run, gate, watch);
     line.keeps();
     *sim = line;
+    undisturbing_scripts_are_calm();
+    nothing_fails_on_a_calm_line();
+    each_check_is_exact();
+    the_gateway_tells_its_own_address();
+    plans_cost_by_their_lists();
     end_of_run(
         alloc,
         sim,

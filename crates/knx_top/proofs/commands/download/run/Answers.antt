@@ -6,7 +6,7 @@ use Rattle.knx_top.proofs.commands.download.run.Goals as goal
 
 pub returns-clause-told : goal.returns-clause-told
 returns-clause-told g c = rw c.hang.ensures.told
-    (told_over (workers_of (options_of c.args.options.now)) c.args.plans _ _ _ _ c.commission-line.result.1 c.new.ensures c.requires.new c.commission-line.ensures.commissioned.grows c.requires.good (rw (c.count.ensures.value ∙ c.workers.ensures) at c.commission-line.ensures.commissioned.tells))
+    (told_over (workers_of (options_of c.args.options.now)) c.args.plans _ _ _ c.commission-line.result.1 c.new.ensures c.requires.good (rw (c.count.ensures.value ∙ c.workers.ensures) at c.commission-line.ensures.commissioned.tells) c.commission-line.ensures.tries)
 
 pub returns-clause-cause : goal.returns-clause-cause
 returns-clause-cause g c = caused g.D.L.Link.story g.D.L.Link.faults c.args.line c.commission-line.result.0 c.commission-line.result.1 c.requires.sound c.requires.new _ _ _ c.hang.ensures.told c.commission-line.ensures.commissioned.cause c.hang.ensures.count c.hang.ensures.wanting

@@ -9,6 +9,7 @@ use Rattle.call_parts.specs.Jobs.{seen_job}
 use Rattle.call_parts.specs.Options as asked
 use Rattle.knx_top.specs.Ran.{FaultsOfLine, log_in}
 use Rattle.bus_sim.proofs.New.{new_line}
+use Rattle.knx_top.proofs.Undisturbed.{Laws}
 use Rattle.knx_top.proofs.Driven.{driven, faults_last, jobs_seen, still_one}
 use Rattle.knx_top.proofs.Shows.{fault_so, runs_so, still_there}
 use Rattle.knx_top.specs.commands.Sim.{ShowsRun}
@@ -34,11 +35,23 @@ returns-clause-runs g c = λ commission is options.
     c.commission-line.ensures.commissioned.cause in
     let workers : ℕ = c.count.result in
     let log : Bool = c.args.options.now.log in
+    let laws : Laws = record {
+      calm = c.undisturbing_scripts_are_calm.ensures;
+      prompt = c.nothing_fails_on_a_calm_line.ensures.prompt;
+      refuses = c.nothing_fails_on_a_calm_line.ensures.refuses;
+      ended = c.nothing_fails_on_a_calm_line.ensures.ended;
+      reached = c.nothing_fails_on_a_calm_line.ensures.reached;
+      told = c.the_gateway_tells_its_own_address.ensures;
+      checks = c.each_check_is_exact.ensures;
+      unread = c.nothing_fails_on_a_calm_line.ensures.unread;
+      load_costs = c.plans_cost_by_their_lists.ensures.loads;
+      check_costs = c.plans_cost_by_their_lists.ensures.checks;
+    } in
     runs_so commission c.args.sim.now line report c.args.order.jobs c.len-turn_count.result c.args.order.devices log c.end_of_run.result
-    (driven commission c.args.order workers c.args.order.turns line (length line.run.events) report is (c.count.ensures.value ∙ c.workers.ensures ∙ ap (λ (o : asked.SimOptions). asked.workers_of o) (sym options) ∙ sym is.workers) (is.prepared.turns ∙ sym is.turns) c.requires.one c.commission-line.ensures.commissioned.grows c.commission-line.ensures.commissioned.script c.keeps-2.ensures.fresh c.keeps-2.ensures.legal c.keeps-2.ensures.follows c.requires.good c.commission-line.ensures.commissioned.tells
-    c.end_of_run.ensures.tries cause)
+    (driven laws commission c.args.order workers c.args.order.turns line (length line.run.events) report is (c.count.ensures.value ∙ c.workers.ensures ∙ ap (λ (o : asked.SimOptions). asked.workers_of o) (sym options) ∙ sym is.workers) (is.prepared.turns ∙ sym is.turns) c.requires.one c.commission-line.ensures.commissioned.grows c.commission-line.ensures.commissioned.script c.keeps-2.ensures.fresh c.keeps-2.ensures.legal c.keeps-2.ensures.follows c.requires.good c.commission-line.ensures.commissioned.tells
+    c.commission-line.ensures.tries cause)
     is.prepared.devices (c.len-turn_count.ensures ∙ ap (λ (ts : List GroupTurn). length ts) (is.prepared.turns ∙ sym is.turns)) (ap (λ (o : asked.SimOptions). o.log) (sym options))
-    (subst (λ (devices : List (IndAddr × Option Image)). ShowsRun line.run report c.args.order.jobs c.len-turn_count.result devices log c.end_of_run.result) c.as_slice.ensures c.end_of_run.ensures.shows)
+    (subst (λ (devices : List (IndAddr × Option Image)). ShowsRun line.run report c.args.order.jobs c.len-turn_count.result devices log c.end_of_run.result) c.as_slice.ensures c.end_of_run.ensures)
 
 pub returns-clause-link : goal.returns-clause-link
 returns-clause-link g c =
@@ -46,7 +59,7 @@ returns-clause-link g c =
     let report = c.commission-line.result.1 in
     let cause : FaultsOfLine (Some report) line = faults_last report.fault report c.args.order.line.faults c.args.order.line line c.requires.sound c.requires.new (still_one c.args.order.line.run line.run c.requires.one c.commission-line.ensures.commissioned.grows) c.keeps-2.ensures.faults
     c.commission-line.ensures.commissioned.cause in
-    fault_so line.run report c.args.order.jobs c.len-turn_count.result c.as_slice.result.now c.args.options.now.log c.end_of_run.result line c.end_of_run.ensures.shows cause
+    fault_so line.run report c.args.order.jobs c.len-turn_count.result c.as_slice.result.now c.args.options.now.log c.end_of_run.result line c.end_of_run.ensures cause
 
 pub returns-clause-watched : goal.returns-clause-watched
-returns-clause-watched g c = tells_shown c.commission-line.result.0.run c.commission-line.result.1 c.args.order.jobs c.len-turn_count.result c.as_slice.result.now c.args.options.now.log (TellsWatcher (devices_in c.args.order.plans) c.args.options.now.quiet) _ _ c.end_of_run.result c.end_of_run.ensures.shows c.commission-line.ensures.watched
+returns-clause-watched g c = tells_shown c.commission-line.result.0.run c.commission-line.result.1 c.args.order.jobs c.len-turn_count.result c.as_slice.result.now c.args.options.now.log (TellsWatcher (devices_in c.args.order.plans) c.args.options.now.quiet) _ _ c.end_of_run.result c.end_of_run.ensures c.commission-line.ensures.watched
