@@ -109,8 +109,8 @@ def flood_of_requests(tried):
 
 @case("requests, each the next one, whose confirmations nobody acknowledges")
 def flood_of_next_requests(tried):
-    # what waits for an acknowledgement has its greatest number after some seconds
-    return flooded(tried, lambda channel, k: request(channel, k & 255, to_device(b"\x80")), least=1_000_000)
+    # what waits for an acknowledgement has its greatest number after two seconds, which is less than the first tenth of so many
+    return flooded(tried, lambda channel, k: request(channel, k & 255, to_device(b"\x80")), least=3_000_000)
 
 
 @case("requests with every frame of 1 to 290 octets that is none")

@@ -191,6 +191,5 @@ driven laws c order workers turns line place report is by sends one goes says fr
       few_turns = few_turns;
       promises = promises;
       told = told;
-      last = last;
       undisturbed = λ u. nothing_fails laws c line.run report order.jobs jobs is.prepared.plans few_jobs few_turns run promises told last u;
     }

@@ -100,7 +100,7 @@ Does (Some (Migrate words)) before after Replied = TellsOfProject IsMigratedText
 -- One run keeps the whole headline (`Ran`): whatever is lost, repeated or cut, at every moment each device keeps its starting content, or is stopped, or runs
 -- what the project says; each group telegram acts on exactly the objects that the running configuration links; done is told only where what the project says
 -- runs; no tunnelling request acts twice; and so on, sentence by sentence. That the link failed is told only at the last time of 64 bits, where a call of the
--- simulated line failed.
+-- simulated line failed; and that there was no memory only where a call of that line found none, or before the run's first turn.
 Does (Some (Sim words)) before after Replied = RunsScript words before.files after.files before.line (left_in after) Replied × FaultsOfLine after.report after.line
 -- the frame of the octets that the word writes
 Does (Some (Decode word)) before after Replied = TellsOfFrame word Replied × OnlyRose None before.files.faults after.files.faults × HasNoRun before.line (left_in after)

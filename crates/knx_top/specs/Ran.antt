@@ -132,8 +132,6 @@ pub record Ran (c : Commission) (r : RunNow) (report : Report) (words : List Job
   pub promises : KeepsPromises c jobs r (log_in report)
   -- the simulated line tells its start and its events
   pub told : IsToldOver c.workers c.turns jobs (Full (start r) r.events) report
-  -- the link failed only at the last time of 64 bits
-  pub last : report.fault ≡ Some LinkFailed → IsAtEnd r
   -- Where no line of the script disturbs, and the jobs' devices are on the line, nothing fails, and the run isn't broken off but for want of memory, by a
   -- flood of datagrams where a group telegram asks for values, or at the last time of 64 bits: each load is told done, each check done exactly where an
   -- earlier job loads its device or its device began with the new image, and each group telegram sent.
