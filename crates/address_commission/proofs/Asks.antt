@@ -9,7 +9,8 @@ use Rattle.knx_model.specs.ApduReading.{apdu_in, tpdu_in, service_in}
 use Rattle.line_model.specs.declared.fault.HubFault.{HubFault}
 use Rattle.line_model.specs.Reading.{ldata_in, RequestFrame, request_in}
 use Rattle.line_model.specs.Record.{Item, Put, Renewed, Got, Quiet, entry, Placed, entries, is_got, got_in}
-use Rattle.line_model.specs.LinkStory.{Story, newest_time}
+use Rattle.line_model.specs.Leaves.{StaysOpen}
+use Rattle.line_model.specs.LinkStory.{Story, Clock, Exact, clock_of, newest_time}
 use Rattle.line_model.specs.Asks.{moment_of}
 use Rattle.line_model.specs.ChannelLost.{is_lost, last_frame, delivers, expected}
 use Rattle.line_model.specs.ClientView.{ClientChannel, Fresh, Sought, RefusedBy, Unanswered, Open, Lost, Deed, Puts, Takes, Loses, own_address, as_counted, channel, deed, deed_of, deed_in}
@@ -33,10 +34,11 @@ use Rattle.address_commission.specs.Going.{Going, OneMore, AsksOne}
 use Rattle.address_commission.specs.Listening.{HeardSo, HearsRounds, Listens, HasWaited, IsTurnTo, IsOut, ListensFor, AwaitsFor, quiet_after}
 use Rattle.address_talk.specs.Ends.{Stands, FailsSo}
 use Rattle.address_commission.specs.Calls.{ToldAs, CausedBy, AsksGoes, TalkFails, TalkGoes}
-use Rattle.address_commission.proofs.Calls.{paced_on, paced_so_far}
+use Rattle.address_commission.proofs.Calls.{before, paced_on, paced_so_far, stays_open_on}
 use Rattle.address_commission.proofs.Folds.{NoGot, quiet_on, count_on}
 use Rattle.address_commission.proofs.Steps.{step_of}
-use Rattle.address_commission.specs.Exact.{WhereExact}
+use Rattle.address_commission.specs.Exact.{WhereClock}
+use Rattle.tunnel_link.specs.Rights.{WhereTold}
 
 -- ---- which frames are reads
 
@@ -135,26 +137,27 @@ module _ (wanted : IndAddr) (asked : Asked) (e f : Ear) (cemi : List ℕ) (at : 
   right : (old : List Placed) → IsTurnTo wanted asked old → has_lost (moments old) ≡ false → AsksRightly wanted old cemi
   right old t kept = record { asked = asked; reads = is; may = t.may; heard_out = t.heard_out; place = t.place; kept = kept }
 
-  put_talks : (old added new : List Placed) → new ≡ added ++ old → PutsIt cemi at old added → IsTurnTo wanted asked old → Stands wanted old → TalksRightly wanted new
-  put_talks old added new grow put t s = subst (TalksRightly wanted) (sym grow) ((one_put wanted cemi _ old added put refl).talks (right old t s.kept) s.rightly)
+  put_talks : (clock : Clock) (old added new : List Placed) → new ≡ added ++ old → PutsIt cemi at old added → IsTurnTo wanted asked old → Stands wanted clock old → TalksRightly wanted new
+  put_talks clock old added new grow put t s = subst (TalksRightly wanted) (sym grow) ((one_put wanted cemi _ old added put refl).talks (right old t s.kept) s.rightly)
 
-  none_talks : (old added new : List Placed) → new ≡ added ++ old → (added ≡ []) ⊎ PutsIt cemi at old added → IsTurnTo wanted asked old → Stands wanted old → TalksRightly wanted new
-  none_talks old added new grow (inl none) t s = subst (TalksRightly wanted) (sym (grow ∙ ap (λ (z : List Placed). z ++ old) none)) s.rightly
-  none_talks old added new grow (inr put) t s = put_talks old added new grow put t s
+  none_talks : (clock : Clock) (old added new : List Placed) → new ≡ added ++ old → (added ≡ []) ⊎ PutsIt cemi at old added → IsTurnTo wanted asked old → Stands wanted clock old → TalksRightly wanted new
+  none_talks clock old added new grow (inl none) t s = subst (TalksRightly wanted) (sym (grow ∙ ap (λ (z : List Placed). z ++ old) none)) s.rightly
+  none_talks clock old added new grow (inr put) t s = put_talks clock old added new grow put t s
 
   new_rounds : (old added new : List Placed) → moments new ≡ moments_on old added ++ moments old → PutsIt cemi at old added → rounds (moments new) ≡ begun cemi ∷ rounds (moments old)
   new_rounds old added new more put = ap rounds (more ∙ ap (λ (z : List Moment). z ++ moments old) put)
 
-  put_listens : (old added new : List Placed) → new ≡ added ++ old → moments new ≡ moments_on old added ++ moments old → PutsIt cemi at old added → IsTurnTo wanted asked old → Paced wanted new → Listens wanted e old → Listens wanted f new
-  put_listens old added new grow more put t paced l =
+  put_listens : (clock : Clock) (old added new : List Placed) → new ≡ added ++ old → moments new ≡ moments_on old added ++ moments old → PutsIt cemi at old added → IsTurnTo wanted asked old → StaysOpen (entries new) → (clock ≡ Exact → Paced wanted new) → Listens wanted e clock old → Listens wanted f clock new
+  put_listens clock old added new grow more put t stays paced l =
       let none : NoGot added = (one_put wanted cemi _ old added put refl).no_got in
       let count : datagrams_taken (entries new) ≡ datagrams_taken (entries old) = ap (λ (z : List Placed). datagrams_taken (entries z)) grow ∙ count_on added old none in
       let quiet : quiet_since (entries new) ≡ quiet_since (entries old) = ap (λ (z : List Placed). quiet_since (entries z)) grow ∙ quiet_on added old none in
       record {
         stands = record {
-          rightly = put_talks old added new grow put t l.stands;
+          rightly = put_talks clock old added new grow put t l.stands;
           kept = ap has_lost (more ∙ ap (λ (z : List Moment). z ++ moments old) put) ∙ l.stands.kept;
           few = subst (λ (z : ℕ). z < flood) (sym count) l.stands.few;
+          stays_open = stays;
           paced = paced;
         };
         hears = record {
@@ -163,27 +166,27 @@ module _ (wanted : IndAddr) (asked : Asked) (e f : Ear) (cemi : List ℕ) (at : 
         };
       }
 
-  pub put_goes : (s t : Story) → GoesOn s t → Growing (PutsOne {X = Unit {0}} (Ok tt) cemi at) s t → Growing (Each TakesNoTime) s t → Growing (Each EndsNone) s t → WhereExact (IsTurnTo wanted asked) s → AsksGoes {X = Unit {0}} wanted asked e f s t (Ok tt)
+  pub put_goes : (s t : Story) → GoesOn s t → Growing (PutsOne {X = Unit {0}} (Ok tt) cemi at) s t → Growing (Each TakesNoTime) s t → Growing (Each EndsNone) s t → WhereTold (IsTurnTo wanted asked) s → AsksGoes {X = Unit {0}} wanted asked e f s t (Ok tt)
   put_goes s t g h time none turn = record {
     listens = λ l new p.
         let x = step_of (PutsOne {X = Unit {0}} (Ok tt) cemi at) s t new g h p in
         let now = turn x.old x.told in
-        put_listens x.old x.added new x.grow x.moments_grow (x.is now.place) now (paced_on e s t g time none wanted l new p) (l x.old x.told);
+        put_listens (clock_of t) x.old x.added new x.grow x.moments_grow (x.is now.place) now (stays_open_on e s t g none wanted l new p) (paced_on e s t g time none wanted l new p) (before (Listens wanted e) s t x.old x.clock l x.told);
     moves = λ l new p.
         let x = step_of (PutsOne {X = Unit {0}} (Ok tt) cemi at) s t new g h p in
         let now = turn x.old x.told in
-        record { old = x.old; told = x.told; is = subst (OneMore wanted asked (rounds (moments x.old))) (sym (new_rounds x.old x.added new x.moments_grow (x.is now.place))) (is, refl) };
+        record { old = x.old; told = x.told; clock = x.clock; is = subst (OneMore wanted asked (rounds (moments x.old))) (sym (new_rounds x.old x.added new x.moments_grow (x.is now.place))) (is, refl) };
     fails = λ l. tt;
   }
 
-  pub put_fails : (fault : HubFault) (s t : Story) (why : AssignFault) → GoesOn s t → Growing (PutsOne {X = Unit {0}} (Err fault) cemi at) s t → Growing (Each TakesNoTime) s t → Growing (Each EndsNone) s t → WhereExact (IsTurnTo wanted asked) s → WhereExact (FailsSo why) t → AsksGoes {X = Unit {0}} wanted asked e f s t (Err why)
+  pub put_fails : (fault : HubFault) (s t : Story) (why : AssignFault) → GoesOn s t → Growing (PutsOne {X = Unit {0}} (Err fault) cemi at) s t → Growing (Each TakesNoTime) s t → Growing (Each EndsNone) s t → WhereTold (IsTurnTo wanted asked) s → WhereTold (FailsSo why) t → AsksGoes {X = Unit {0}} wanted asked e f s t (Err why)
   put_fails fault s t why g h time none turn cause = record {
     listens = λ l. tt;
     moves = λ l. tt;
     fails = λ l new p.
         let x = step_of (PutsOne {X = Unit {0}} (Err fault) cemi at) s t new g h p in
         let now = turn x.old x.told in
-        record { cause = cause new p; rightly = none_talks x.old x.added new x.grow (x.is now.place) now (l x.old x.told).stands; paced = paced_so_far e s t g time none wanted l new p };
+        record { cause = cause new p; rightly = none_talks (clock_of s) x.old x.added new x.grow (x.is now.place) now (l x.old x.told).stands; stays_open = stays_open_on e s t g none wanted l new p; paced = paced_so_far e s t g time none wanted l new p };
   }
 
 -- ---- its wait
@@ -197,7 +200,7 @@ waited_moves : (wanted : IndAddr) (asked : Asked) (s t u : Story) → Going (Ask
 waited_moves wanted asked s t u m w new p =
     let y = w new p in
     let x = m y.old y.told in
-    record { old = x.old; told = x.told; is = one_more_on wanted asked (rounds (moments x.old)) (rounds (moments y.old)) (rounds (moments new)) x.is y.is }
+    record { old = x.old; told = x.told; clock = y.clock ∙ x.clock; is = one_more_on wanted asked (rounds (moments x.old)) (rounds (moments y.old)) (rounds (moments new)) x.is y.is }
 
 pub asked_goes : (wanted : IndAddr) (asked : Asked) (e d f : Ear) (s t u : Story) (result : Result (Unit {0}) AssignFault) → AsksGoes {X = Unit {0}} wanted asked e d s t (Ok tt) → TalkGoes SameRounds d f t u result → AsksGoes wanted asked e f s u result
 asked_goes wanted asked e d f s t u (Ok done) m w = record { listens = λ l. w.listens wanted (m.listens l); moves = λ l. waited_moves wanted asked s t u (m.moves l) (w.moves wanted (m.listens l)); fails = λ l. tt }
@@ -223,7 +226,7 @@ out_by wanted asked f new (r ∷ rs) before m h s w = record {
   quiet = λ reads. subst (λ (n : ℕ). n + listening_wait ≤ newest_time (entries new)) s (quiet_enough wanted asked f.since (newest_time (entries new)) w.enough (sym m.0 ∙ reads));
 }
 
-pub asked_out : (wanted : IndAddr) (asked : Asked) (e f : Ear) (s u : Story) → AsksGoes {X = Unit {0}} wanted asked e f s u (Ok tt) → WhereExact (HasWaited (quiet_after asked) f) u → WhereExact (Listens wanted e) s → WhereExact (IsOut wanted f) u
+pub asked_out : (wanted : IndAddr) (asked : Asked) (e f : Ear) (s u : Story) → AsksGoes {X = Unit {0}} wanted asked e f s u (Ok tt) → WhereTold (HasWaited (quiet_after asked) f) u → WhereClock (Listens wanted e) s → WhereClock (IsOut wanted f) u
 asked_out wanted asked e f s u m w l new p =
     let listens = m.listens l new p in
     let x = m.moves l new p in
@@ -237,7 +240,7 @@ asked_out wanted asked e f s u m w l new p =
 -- ---- by what the client's end of the tunnel told
 
 pub put_told : (wanted : IndAddr) (asked : Asked) (e f : Ear) (cemi : List ℕ) (at : ℕ) → ldata_in cemi ≡ Some (frame_of wanted asked) → Before asked e f → (call : Result (Unit {0}) HubFault) (result : Result (Unit {0}) AssignFault) → ToldAs call result → (s t : Story) → GoesOn s t → Growing (PutsOne call cemi at) s t
-    → Growing (Each TakesNoTime) s t → Growing (Each EndsNone) s t → WhereExact (IsTurnTo wanted asked) s → WhereExact (CausedBy result) t → AsksGoes wanted asked e f s t result
+    → Growing (Each TakesNoTime) s t → Growing (Each EndsNone) s t → WhereTold (IsTurnTo wanted asked) s → WhereTold (CausedBy result) t → AsksGoes wanted asked e f s t result
 put_told wanted asked e f cemi at is b (Ok done) (Ok same) told s t g h time none turn cause = put_goes wanted asked e f cemi at is b s t g h time none turn
 put_told wanted asked e f cemi at is b (Ok done) (Err why) told s t g h time none turn cause = absurd (cc)
 put_told wanted asked e f cemi at is b (Err fault) (Ok done) told s t g h time none turn cause = absurd (cc)
@@ -245,10 +248,10 @@ put_told wanted asked e f cemi at is b (Err fault) (Err why) told s t g h time n
 
 -- ---- a request and its wait, where it listened before
 
-pub asked_fails : {X : Type 0} (wanted : IndAddr) (asked : Asked) (e f : Ear) (s u : Story) (result : Result X AssignFault) → AsksGoes wanted asked e f s u result → WhereExact (Listens wanted e) s → TalkFails wanted u result
+pub asked_fails : {X : Type 0} (wanted : IndAddr) (asked : Asked) (e f : Ear) (s u : Story) (result : Result X AssignFault) → AsksGoes wanted asked e f s u result → WhereClock (Listens wanted e) s → TalkFails wanted u result
 asked_fails wanted asked e f s u result m l = m.fails l
 
-pub out_goes : (wanted : IndAddr) (asked : Asked) (e f : Ear) (s u : Story) (result : Result (Unit {0}) AssignFault) → AsksGoes wanted asked e f s u result → OnOk result (WhereExact (HasWaited (quiet_after asked) f) u) → WhereExact (Listens wanted e) s → OnOk result (WhereExact (IsOut wanted f) u)
+pub out_goes : (wanted : IndAddr) (asked : Asked) (e f : Ear) (s u : Story) (result : Result (Unit {0}) AssignFault) → AsksGoes wanted asked e f s u result → OnOk result (WhereTold (HasWaited (quiet_after asked) f) u) → WhereClock (Listens wanted e) s → OnOk result (WhereClock (IsOut wanted f) u)
 out_goes wanted asked e f s u (Ok done) m w l = asked_out wanted asked e f s u m w l
 out_goes wanted asked e f s u (Err why) m w l = tt
 
@@ -261,7 +264,7 @@ listens_by wanted Connect old (r ∷ rs) m = inl refl
 listens_by wanted Disconnect old (r ∷ rs) m = inl refl
 listens_by wanted Write old (r ∷ rs) m = inl refl
 
-pub listens_for : (wanted : IndAddr) (asked : Asked) (s t : Story) → Going (AsksOne wanted asked) s t → WhereExact (λ places. ListensFor (quiet_after asked) (rounds (moments places))) t
+pub listens_for : (wanted : IndAddr) (asked : Asked) (s t : Story) → Going (AsksOne wanted asked) s t → WhereTold (λ places. ListensFor (quiet_after asked) (rounds (moments places))) t
 listens_for wanted asked s t m new p = let x = m new p in listens_by wanted asked (rounds (moments x.old)) (rounds (moments new)) x.is
 
 still_for : (quiet : ℕ) (rs ss : List Round) → GoOn rs ss → ListensFor quiet rs → ListensFor quiet ss
@@ -270,7 +273,7 @@ still_for quiet (r ∷ rs) [] g h = absurd g
 still_for quiet (r ∷ rs) (s ∷ ss) g (inl none) = inl none
 still_for quiet (r ∷ rs) (s ∷ ss) g (inr h) = inr (h.0, λ wanted. g.0 ∙ h.1 wanted)
 
-pub still_listens_for : (quiet : ℕ) (s t : Story) → Going SameRounds s t → WhereExact (λ places. ListensFor quiet (rounds (moments places))) s → WhereExact (λ places. ListensFor quiet (rounds (moments places))) t
+pub still_listens_for : (quiet : ℕ) (s t : Story) → Going SameRounds s t → WhereTold (λ places. ListensFor quiet (rounds (moments places))) s → WhereTold (λ places. ListensFor quiet (rounds (moments places))) t
 still_listens_for quiet s t m h new p = let x = m new p in still_for quiet (rounds (moments x.old)) (rounds (moments new)) x.is (h x.old x.told)
 
 -- as long as it hasn't waited, something is awaited until the listening ends
@@ -291,8 +294,8 @@ awaits_by wanted quiet longest now newest since e (r ∷ rs) (inr f) h not rest 
       absurd (let z : now < now = omega (arith, less, is, all, over, lt) in omega (arith, z))
   by_quiet false w = not some (ltb-false (newest - since) quiet w)
 
-pub awaits_for : (quiet longest now : ℕ) (e : Ear) (s : Story) → WhereExact (λ places. ListensFor quiet (rounds (moments places))) s → WhereExact (λ places. now ≡ newest_time (entries places)) s → WhereExact (λ places. HasWaited quiet e places → ⊥) s
-    → (e.confirmed ≢ None → now - e.since < quiet → longest ≡ quiet - (now - e.since)) → (wanted : IndAddr) → WhereExact (Listens wanted e) s → WhereExact (AwaitsFor wanted longest) s
+pub awaits_for : (quiet longest now : ℕ) (e : Ear) (s : Story) → WhereTold (λ places. ListensFor quiet (rounds (moments places))) s → WhereTold (λ places. now ≡ newest_time (entries places)) s → WhereTold (λ places. HasWaited quiet e places → ⊥) s
+    → (e.confirmed ≢ None → now - e.since < quiet → longest ≡ quiet - (now - e.since)) → (wanted : IndAddr) → WhereClock (Listens wanted e) s → WhereTold (AwaitsFor wanted longest) s
 awaits_for quiet longest now e s f time not rest wanted l places p then lt place out =
     let h = (l places p).hears in
     let is : now ≡ newest_time (entries places) = time places p in

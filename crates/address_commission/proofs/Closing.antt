@@ -13,7 +13,7 @@ use Rattle.line_model.specs.Asks.{HasPlace}
 use Rattle.line_model.specs.Closing.{asks_to_end, is_open}
 use Rattle.line_model.specs.Haste.{KeepsPaces}
 use Rattle.line_model.specs.Record.{Placed, entries}
-use Rattle.line_model.specs.LinkStory.{Story, newest_time}
+use Rattle.line_model.specs.LinkStory.{Story, Clock, newest_time, places_in}
 use Rattle.line_model.specs.ClientView.{ClientChannel, Fresh, Sought, RefusedBy, Unanswered, Open, Lost, Deed, Puts, Takes, Loses, Nothing as DoesNothing, channel}
 use Rattle.line_model.specs.Moments.{Moment, moments}
 use Rattle.line_model.specs.Signs.{Every}
@@ -23,28 +23,27 @@ use Rattle.tunnel_link.specs.declared.came.Loss.TheVariants.{Stays, Ended, Told}
 use Rattle.tunnel_link.specs.declared.came.What.{What}
 use Rattle.tunnel_link.specs.declared.came.What.TheVariants as came
 use Rattle.tunnel_link.specs.Adds.{Growing, Acts, Leaves, PollAdds, PutsNone, One, OrLoses, DoesSo, AtMostOne, asks_end, moments_on}
-use Rattle.tunnel_link.specs.Alone.{Each, EndsNone, LeavesAlone, Nothing, Once, SendsOnce}
+use Rattle.tunnel_link.specs.Alone.{Each, EndsNone, Nothing, Once, SendsOnce}
 use Rattle.tunnel_link.specs.Goes.{GoesOn}
 use Rattle.tunnel_link.specs.Paces.{TakesNoTime}
-use Rattle.tunnel_link.specs.Rights.{FailsWhere}
+use Rattle.tunnel_link.specs.Rights.{FailsWhere, WhereTold}
 use Rattle.tunnel_link.proofs.Acting.{grows_then}
-use Rattle.tunnel_link.proofs.SeekKept.{grows_as}
 use Rattle.tunnel_link.proofs.Stories.{goes_again}
 use Rattle.address_talk.specs.declared.assigned.Assigned.{Assigned}
 use Rattle.address_talk.specs.declared.assigned.AssignFault.{AssignFault}
 use Rattle.address_talk.specs.declared.assigned.AssignFault.TheVariants as fails
 use Rattle.address_talk.specs.Rounds.{Round, after_deed, rounds, has_lost, GoOn, SameRounds}
 use Rattle.address_talk.specs.Talk.{TalksRightly}
-use Rattle.address_commission.specs.Going.{Going}
+use Rattle.address_commission.specs.Going.{Going, GoingExact}
 use Rattle.address_talk.specs.Ends.{Answered, AnsweredBy, ComesLate, EndsOnce, EndsSo, FailsBy, FailsSo, Leaves as LeavesAnswered, LeavesOn}
 use Rattle.address_commission.specs.Calls.{ClosesSo, HasAwaited, LeavesSince, PaceKept, ToldAs, fault_of}
 use Rattle.std.specs.Prelude.{IfErr, OnOk}
 use Rattle.address_commission.proofs.Leaving.{awaits_after, request_left}
-use Rattle.address_commission.proofs.Exacts.{told_too}
+use Rattle.address_commission.proofs.Calls.{before}
 use Rattle.address_commission.proofs.Folds.{nothing_rounds, one_rounds, NotPuts, PutsNo, nothing_puts, one_puts, not_puts, talks_on}
 use Rattle.address_commission.proofs.Heard.{go_same, go_on, go_frame}
 use Rattle.address_commission.proofs.Steps.{Step, step_of, told_before, some_is}
-use Rattle.address_commission.specs.Exact.{WhereExact, exact_places_in}
+use Rattle.address_commission.specs.Exact.{WhereClock, WhereExact}
 
 go_deed : (d : Deed) (rs : List Round) → NotPuts d → GoOn rs (after_deed d rs)
 go_deed (Puts cemi) rs h = absurd h
@@ -84,6 +83,7 @@ few_close P few wanted s t g h new p =
     record {
       old = x.old;
       told = x.told;
+      clock = x.clock;
       is = record {
         goes_on = record { added = x.added; all = x.grow; rounds_go_on = subst (λ (z : List Moment). GoOn (rounds (moments x.old)) (rounds z)) (sym x.moments_grow) (few_go (moments_on x.old x.added) (moments x.old) one) };
         rightly = λ talks. subst (TalksRightly wanted) (sym x.grow) (talks_on wanted x.old x.added (few_put (moments_on x.old x.added) one) talks);
@@ -112,12 +112,12 @@ poll_closes result wanted s t g h = few_close (PollAdds result) (poll_few result
 
 -- as the rounds go on
 pub goes_same_rounds : (s t : Story) → ((wanted : IndAddr) → Going (ClosesSo wanted) s t) → Going SameRounds s t
-goes_same_rounds s t h new p = let x = h (record { raw = 0 }) new p in record { old = x.old; told = x.told; is = x.is.goes_on.rounds_go_on }
+goes_same_rounds s t h new p = let x = h (record { raw = 0 }) new p in record { old = x.old; told = x.told; clock = x.clock; is = x.is.goes_on.rounds_go_on }
 
 -- ---- one call after another
 
 pub closes_same : (wanted : IndAddr) (s : Story) → Going (ClosesSo wanted) s s
-closes_same wanted s new p = record { old = new; told = p; is = record { goes_on = record { added = []; all = refl; rounds_go_on = go_same (rounds (moments new)) }; rightly = λ talks. talks } }
+closes_same wanted s new p = record { old = new; told = p; clock = refl; is = record { goes_on = record { added = []; all = refl; rounds_go_on = go_same (rounds (moments new)) }; rightly = λ talks. talks } }
 
 pub closes_on : (wanted : IndAddr) (s t u : Story) → Going (ClosesSo wanted) s t → Going (ClosesSo wanted) t u → Going (ClosesSo wanted) s u
 closes_on wanted s t u a b new p =
@@ -126,6 +126,7 @@ closes_on wanted s t u a b new p =
     record {
       old = x.old;
       told = x.told;
+      clock = y.clock ∙ x.clock;
       is = record {
         goes_on = record {
           added = y.is.goes_on.added ++ x.is.goes_on.added;
@@ -137,13 +138,6 @@ closes_on wanted s t u a b new p =
     }
 
 -- ---- the channel is asked to end once
-
-alone_ends_none : (old added : List Placed) → Each LeavesAlone old added → Each EndsNone old added
-alone_ends_none old [] h = tt
-alone_ends_none old (p ∷ added) h = (h.0.ends_none, alone_ends_none old added h.1)
-
-pub ends_none_of : (s t : Story) → Growing (Each LeavesAlone) s t → Growing (Each EndsNone) s t
-ends_none_of s t g = grows_as (Each LeavesAlone) (Each EndsNone) s t alone_ends_none g
 
 or_false : (b : Bool) → (b || false) ≡ true → b ≡ true
 or_false true e = e
@@ -177,8 +171,8 @@ asked_by s t g h old p =
     record { new = x.new; told = x.told; added = x.added; grown = x.grown; is = request_by old x.added (subst (SendsOnce old) same y.is) (x.is.so.1) }
 
 -- it doesn't ask only where no channel is open
-pub must_ask : (s t : Story) → Growing (Leaves (Ok false)) s t → WhereExact (λ places. HasPlace (channel (entries places))) s → (old : List Placed) → exact_places_in s ≡ Some old → ⊥
-must_ask s t g place old p = let x = g old (told_too s old p) in absurd (let e : false ≡ true = x.is.so.0 ∙ open_place (channel (entries old)) (place old p) in cc)
+pub must_ask : (s t : Story) → Growing (Leaves (Ok false)) s t → WhereTold (λ places. HasPlace (channel (entries places))) s → (old : List Placed) → places_in s ≡ Some old → ⊥
+must_ask s t g place old p = let x = g old p in absurd (let e : false ≡ true = x.is.so.0 ∙ open_place (channel (entries old)) (place old p) in cc)
 
 later_ends : (old one two : List Placed) → Request old one → Each EndsNone (one ++ old) two → EndsOnce old (two ++ one)
 later_ends old one two r none = record {
@@ -192,18 +186,18 @@ later_ends old one two r none = record {
 ends_after : (s t u : Story) → GoesOn s t → GoesOn t u → Growing (Leaves (Ok true)) s t → Growing SendsOnce s t → Growing (Each EndsNone) t u → Growing EndsOnce s u
 ends_after s t u g h leaves once none = grows_then Request (Each EndsNone) EndsOnce s t u g h later_ends (asked_by s t leaves once) none
 
-ends_by : (asked : Bool) (s t u : Story) → GoesOn s t → GoesOn t u → Growing (Leaves (Ok asked)) s t → Growing SendsOnce s t → Growing (Each EndsNone) t u → WhereExact (λ places. HasPlace (channel (entries places))) s → (new : List Placed) → exact_places_in u ≡ Some new → Step EndsOnce s new
+ends_by : (asked : Bool) (s t u : Story) → GoesOn s t → GoesOn t u → Growing (Leaves (Ok asked)) s t → Growing SendsOnce s t → Growing (Each EndsNone) t u → WhereTold (λ places. HasPlace (channel (entries places))) s → (new : List Placed) → places_in u ≡ Some new → Step EndsOnce s u new
 ends_by true s t u g h leaves once none place new p = step_of EndsOnce s u new (goes_again s t u g h) (ends_after s t u g h leaves once none) p
 ends_by false s t u g h leaves once none place new p = let b = told_before s u new (goes_again s t u g h) p in absurd (must_ask s t leaves place b.0 b.1)
 
 module _ (call : Result Bool HubFault) (began : ℕ) (s t u : Story) (g : GoesOn s t) (h : GoesOn t u) (leaves : Growing (Leaves call) s t) (once : Growing SendsOnce s t) (time : Growing (Each TakesNoTime) s t) (none : Growing (Each EndsNone) t u)
-    (place : WhereExact (λ places. HasPlace (channel (entries places))) s) (kept : WhereExact (λ places. has_lost (moments places) ≡ false) s) (now : WhereExact (λ places. began ≡ newest_time (entries places)) s) where
-  leaves_on : (asked : Bool) → call ≡ Ok asked → ((talk : List Placed) → newest_time (entries talk) ≡ began → WhereExact (LeavesSince 64 talk) t → WhereExact (HasAwaited talk) u) → Going LeavesOn s u
-  leaves_on asked is awaited new p =
+    (place : WhereTold (λ places. HasPlace (channel (entries places))) s) (kept : WhereTold (λ places. has_lost (moments places) ≡ false) s) (now : WhereTold (λ places. began ≡ newest_time (entries places)) s) where
+  leaves_on : (asked : Bool) → call ≡ Ok asked → ((talk : List Placed) → newest_time (entries talk) ≡ began → WhereExact (LeavesSince 64 talk) t → WhereExact (HasAwaited talk) u) → GoingExact LeavesOn s u
+  leaves_on asked is awaited new p exact =
       let b = told_before s u new (goes_again s t u g h) p in
-      awaits_after s u b.0 b.1 (awaited b.0 (sym (now b.0 b.1)) (request_left call b.0 s t g leaves once time b.1 kept)) new p (ends_by asked s t u g h (subst (λ (r : Result Bool HubFault). Growing (Leaves r) s t) is leaves) once none place new p)
+      awaits_after s u b.0 b.1 (awaited b.0 (sym (now b.0 b.1)) (request_left call b.0 s t g leaves once time b.1 kept)) new p exact (ends_by asked s t u g h (subst (λ (r : Result Bool HubFault). Growing (Leaves r) s t) is leaves) once none place new p)
 
-  pub leaves_so : {X : Type 0} (asked : Bool) → call ≡ Ok asked → (result : Result X AssignFault) → OnOk result ((talk : List Placed) → newest_time (entries talk) ≡ began → WhereExact (LeavesSince 64 talk) t → WhereExact (HasAwaited talk) u) → OnOk result (Going LeavesOn s u)
+  pub leaves_so : {X : Type 0} (asked : Bool) → call ≡ Ok asked → (result : Result X AssignFault) → OnOk result ((talk : List Placed) → newest_time (entries talk) ≡ began → WhereExact (LeavesSince 64 talk) t → WhereExact (HasAwaited talk) u) → OnOk result (GoingExact LeavesOn s u)
   leaves_so asked is (Ok x) awaited = leaves_on asked is awaited
   leaves_so asked is (Err why) awaited = tt
 
@@ -241,16 +235,23 @@ failed_by why old new is h = subst (λ (z : AssignFault). FailsBy z old new) is 
 
 -- ---- after an answer
 
-pub answered_at : (wanted : IndAddr) (assigned : Assigned) (s t : Story) → WhereExact (AnsweredBy wanted assigned) s → Going (ClosesSo wanted) s t → Going PaceKept s t → WhereExact (Answered wanted assigned) t
+pub answered_at : (wanted : IndAddr) (assigned : Assigned) (s t : Story) → WhereClock (AnsweredBy wanted assigned) s → Going (ClosesSo wanted) s t → GoingExact PaceKept s t → WhereClock (Answered wanted assigned) t
 answered_at wanted assigned s t a c k new p =
     let x = c new p in
-    let y = k new p in
-    let same : y.old ≡ x.old = some_is y.old x.old (sym y.told ∙ x.told) in
-    let by = a x.old x.told in
-    record { talk = x.old; answered = by; closes = x.is.goes_on; rightly = x.is.rightly by.stands.rightly; keeps = y.is (subst (λ (z : List Placed). KeepsPaces (entries z)) (sym same) by.stands.paced.keeps) }
+    let by = before (AnsweredBy wanted assigned) s t x.old x.clock a x.told in
+    record {
+      talk = x.old;
+      answered = by;
+      closes = x.is.goes_on;
+      rightly = x.is.rightly by.stands.rightly;
+      keeps = λ exact.
+          let y = k new p exact in
+          let same : y.old ≡ x.old = some_is y.old x.old (sym y.told ∙ x.told) in
+          y.is (subst (λ (z : List Placed). KeepsPaces (entries z)) (sym same) (by.stands.paced exact).keeps);
+    }
 
-pub closing_fails : (wanted : IndAddr) (assigned : Assigned) (why : AssignFault) (s t : Story) → WhereExact (AnsweredBy wanted assigned) s → Going (ClosesSo wanted) s t → Going PaceKept s t → WhereExact (FailsSo why) t → ComesLate why → WhereExact (EndsSo wanted (Err why)) t
+pub closing_fails : (wanted : IndAddr) (assigned : Assigned) (why : AssignFault) (s t : Story) → WhereClock (AnsweredBy wanted assigned) s → Going (ClosesSo wanted) s t → GoingExact PaceKept s t → WhereTold (FailsSo why) t → ComesLate why → WhereClock (EndsSo wanted (Err why)) t
 closing_fails wanted assigned why s t a c k f late new p = inr (record { cause = f new p; late = late; assigned = assigned; answered = answered_at wanted assigned s t a c k new p })
 
-pub left_so : (wanted : IndAddr) (assigned : Assigned) (s t : Story) → WhereExact (AnsweredBy wanted assigned) s → Going LeavesOn s t → WhereExact (LeavesAnswered wanted assigned) t
-left_so wanted assigned s t a l new p = let x = l new p in record { talk = x.old; answered = a x.old x.told; leaves = x.is }
+pub left_so : (wanted : IndAddr) (assigned : Assigned) (s t : Story) → WhereClock (AnsweredBy wanted assigned) s → GoingExact LeavesOn s t → WhereExact (LeavesAnswered wanted assigned) t
+left_so wanted assigned s t a l new p exact = let x = l new p exact in record { talk = x.old; answered = subst (λ (c : Clock). AnsweredBy wanted assigned c x.old) (sym x.clock ∙ exact) (a x.old x.told); leaves = x.is }

@@ -3,7 +3,7 @@ use Rattle.std.proofs.Common.{◌≡◌, ◌≢◌, ℕ, suc, ◌<◌, List, [],
 use Rattle.std.specs.Prelude.{OnOk}
 use Rattle.knx_model.specs.declared.address.IndAddr.{IndAddr}
 use Rattle.line_model.specs.Record.{Placed}
-use Rattle.line_model.specs.LinkStory.{Story}
+use Rattle.line_model.specs.LinkStory.{Story, Clock, clock_of}
 use Rattle.line_model.specs.Moments.{moments}
 use Rattle.address_world.specs.declared.asked.Asked.TheVariants.{Read, Connect, Disconnect, Write}
 use Rattle.address_talk.specs.declared.assigned.AssignFault.{AssignFault}
@@ -18,7 +18,8 @@ use Rattle.address_commission.specs.Going.{Going, OneMore, AsksOne}
 use Rattle.address_commission.specs.Listening.{HeardSo, HearsRounds, Listens, Begins, IsTurnTo, IsOut, SearchedSo, FoundSo, TriedBy, SureSo}
 use Rattle.address_talk.specs.Ends.{AnsweredBy}
 use Rattle.address_commission.proofs.Asks.{read_is}
-use Rattle.address_commission.specs.Exact.{WhereExact}
+use Rattle.address_commission.specs.Exact.{WhereClock}
+use Rattle.tunnel_link.specs.Rights.{WhereTold}
 
 -- ---- so many reads that nobody answered before the newest one
 
@@ -40,26 +41,26 @@ nobody_by wanted n e (r ∷ before) h l none =
     let silent : answers (r ∷ before) ≡ [] = subst (λ (x : Heard). HeardSo x (answers (r ∷ before))) none l.0 in
     ((record { reads = h.0; silent = sym (read_answers wanted r before h.0) ∙ silent }, h.1), ap suc h.2)
 
-pub begin_read : (wanted : IndAddr) (s : Story) → WhereExact Begins s → WhereExact (IsTurnTo wanted Read) s
+pub begin_read : (wanted : IndAddr) (s : Story) → WhereTold Begins s → WhereTold (IsTurnTo wanted Read) s
 begin_read wanted s h p e =
     let b = h p e in
     record { may = subst (λ (rs : List Round). MayAsk wanted rs Read) (sym b.nothing) (ReadsFirst tt (omega arith)); heard_out = rw b.nothing tt; place = b.place }
 
-pub first_read : (wanted : IndAddr) (s t : Story) → WhereExact Begins s → Going (AsksOne wanted Read) s t → WhereExact (λ places. HasRead wanted 0 (rounds (moments places))) t
+pub first_read : (wanted : IndAddr) (s t : Story) → WhereTold Begins s → Going (AsksOne wanted Read) s t → WhereTold (λ places. HasRead wanted 0 (rounds (moments places))) t
 first_read wanted s t h m new p =
     let x = m new p in
     let b = h x.old x.told in
     has_read wanted 0 (rounds (moments x.old)) (rounds (moments new)) x.is (rw b.nothing tt) (rw b.nothing refl)
 
 -- nobody answered, and there is a read left
-pub read_again : (wanted : IndAddr) (n : ℕ) (e : Ear) (s : Story) → n < 2 → WhereExact (λ places. HasRead wanted n (rounds (moments places))) s → WhereExact (IsOut wanted e) s → e.heard ≡ ear.Nobody → WhereExact (IsTurnTo wanted Read) s
+pub read_again : (wanted : IndAddr) (n : ℕ) (e : Ear) (s : Story) → n < 2 → WhereTold (λ places. HasRead wanted n (rounds (moments places))) s → WhereClock (IsOut wanted e) s → e.heard ≡ ear.Nobody → WhereTold (IsTurnTo wanted Read) s
 read_again wanted n e s less h out none p q =
     let o = out p q in
     let k = nobody_by wanted n e (rounds (moments p)) (h p q) o.listens.hears.rounds_so none in
     record { may = ReadsFirst k.0 (omega (arith, k.1)); heard_out = o.heard_out; place = o.place }
 
-pub next_read : (wanted : IndAddr) (n : ℕ) (e : Ear) (s t : Story) → WhereExact (λ places. HasRead wanted n (rounds (moments places))) s → WhereExact (IsOut wanted e) s → e.heard ≡ ear.Nobody → Going (AsksOne wanted Read) s t
-    → WhereExact (λ places. HasRead wanted (suc n) (rounds (moments places))) t
+pub next_read : (wanted : IndAddr) (n : ℕ) (e : Ear) (s t : Story) → WhereTold (λ places. HasRead wanted n (rounds (moments places))) s → WhereClock (IsOut wanted e) s → e.heard ≡ ear.Nobody → Going (AsksOne wanted Read) s t
+    → WhereTold (λ places. HasRead wanted (suc n) (rounds (moments places))) t
 next_read wanted n e s t h out none m new p =
     let x = m new p in
     let k = nobody_by wanted n e (rounds (moments x.old)) (h x.old x.told) (out x.old x.told).listens.hears.rounds_so none in
@@ -72,7 +73,7 @@ searches_by wanted n (ear.Several a b) [] less h some = absurd h
 searches_by wanted n (ear.One source) (r ∷ before) less h some = record { reads = h.0; silent = h.1; few = omega (arith, h.2) }
 searches_by wanted n (ear.Several a b) (r ∷ before) less h some = record { reads = h.0; silent = h.1; few = omega (arith, h.2) }
 
-pub somebody : (wanted : IndAddr) (n : ℕ) (e : Ear) (s : Story) → n < 3 → WhereExact (λ places. HasRead wanted n (rounds (moments places))) s → (e.heard ≡ ear.Nobody → ⊥) → WhereExact (λ places. SearchedSo wanted e.heard (rounds (moments places))) s
+pub somebody : (wanted : IndAddr) (n : ℕ) (e : Ear) (s : Story) → n < 3 → WhereTold (λ places. HasRead wanted n (rounds (moments places))) s → (e.heard ≡ ear.Nobody → ⊥) → WhereTold (λ places. SearchedSo wanted e.heard (rounds (moments places))) s
 somebody wanted n e s less h some p q = searches_by wanted n e.heard (rounds (moments p)) less (h p q) some
 
 last_by : (wanted : IndAddr) (e : Ear) (heard : Heard) (rs : List Round) → e.heard ≡ heard → HasRead wanted 2 rs → HearsRounds e rs → SearchedSo wanted heard rs
@@ -80,13 +81,13 @@ last_by wanted e ear.Nobody rs is h l = nobody_by wanted 2 e rs h l is
 last_by wanted e (ear.One source) rs is h l = searches_by wanted 2 (ear.One source) rs (omega arith) h (λ z. cc)
 last_by wanted e (ear.Several a b) rs is h l = searches_by wanted 2 (ear.Several a b) rs (omega arith) h (λ z. cc)
 
-pub anybody : (wanted : IndAddr) (e : Ear) (s : Story) → WhereExact (λ places. HasRead wanted 2 (rounds (moments places))) s → WhereExact (IsOut wanted e) s → WhereExact (λ places. SearchedSo wanted e.heard (rounds (moments places))) s
+pub anybody : (wanted : IndAddr) (e : Ear) (s : Story) → WhereTold (λ places. HasRead wanted 2 (rounds (moments places))) s → WhereClock (IsOut wanted e) s → WhereTold (λ places. SearchedSo wanted e.heard (rounds (moments places))) s
 anybody wanted e s h out p q = last_by wanted e e.heard (rounds (moments p)) refl (h p q) (out p q).listens.hears.rounds_so
 
 -- ---- what came of the search
 
-answer : (wanted : IndAddr) (assigned : Assigned) (e : Ear) (places : List Placed) → IsOut wanted e places → Gives wanted (rounds (moments places)) assigned → AnsweredBy wanted assigned places
-answer wanted assigned e places o g = record { stands = o.listens.stands; place = o.place; heard_out = o.heard_out; gives = g }
+answer : (wanted : IndAddr) (assigned : Assigned) (e : Ear) (clock : Clock) (places : List Placed) → IsOut wanted e clock places → Gives wanted (rounds (moments places)) assigned → AnsweredBy wanted assigned clock places
+answer wanted assigned e clock places o g = record { stands = o.listens.stands; place = o.place; heard_out = o.heard_out; gives = g }
 
 found_by : (wanted : IndAddr) (assigned : Assigned) (heard : Heard) (e : Ear) (rs : List Round) → e.heard ≡ heard → FoundSo wanted heard (Some assigned) → SearchedSo wanted heard rs → HearsRounds e rs → Gives wanted rs assigned
 found_by wanted assigned ear.Nobody e rs is f s l = let q : NoUnit ≡ assigned = sym (cc) in subst (Gives wanted rs) q (NobodyAnswers s.0 s.1)
@@ -98,8 +99,8 @@ found_by wanted assigned (ear.Several first second) e (r ∷ before) is f s l =
     let q : Several first second ≡ assigned = sym (cc) in
     subst (Gives wanted (r ∷ before)) q (ManyAnswer first second s (subst (λ (x : Heard). HeardSo x (answers (r ∷ before))) is l.0))
 
-pub found_gives : (wanted : IndAddr) (assigned : Assigned) (e : Ear) (s : Story) → FoundSo wanted e.heard (Some assigned) → WhereExact (λ places. SearchedSo wanted e.heard (rounds (moments places))) s → WhereExact (IsOut wanted e) s → WhereExact (AnsweredBy wanted assigned) s
-found_gives wanted assigned e s f h out p q = let o = out p q in answer wanted assigned e p o (found_by wanted assigned e.heard e (rounds (moments p)) refl f (h p q) o.listens.hears.rounds_so)
+pub found_gives : (wanted : IndAddr) (assigned : Assigned) (e : Ear) (s : Story) → FoundSo wanted e.heard (Some assigned) → WhereTold (λ places. SearchedSo wanted e.heard (rounds (moments places))) s → WhereClock (IsOut wanted e) s → WhereClock (AnsweredBy wanted assigned) s
+found_gives wanted assigned e s f h out p q = let o = out p q in answer wanted assigned e (clock_of s) p o (found_by wanted assigned e.heard e (rounds (moments p)) refl f (h p q) o.listens.hears.rounds_so)
 
 -- ---- one unit answered, and not from the wanted address
 
@@ -113,14 +114,14 @@ other_by wanted (ear.Several first second) e rs is f s l = absurd (cc)
 other_by wanted (ear.One source) e [] is f s l = absurd s
 other_by wanted (ear.One source) e (r ∷ before) is f s l = (s, record { source = source; one = subst (λ (x : Heard). HeardSo x (answers (r ∷ before))) is l.0; other = f })
 
-pub found_other : (wanted : IndAddr) (e : Ear) (s : Story) → FoundSo wanted e.heard None → WhereExact (λ places. SearchedSo wanted e.heard (rounds (moments places))) s → WhereExact (IsOut wanted e) s → WhereExact (λ places. FoundOther wanted (rounds (moments places))) s
+pub found_other : (wanted : IndAddr) (e : Ear) (s : Story) → FoundSo wanted e.heard None → WhereTold (λ places. SearchedSo wanted e.heard (rounds (moments places))) s → WhereClock (IsOut wanted e) s → WhereTold (λ places. FoundOther wanted (rounds (moments places))) s
 found_other wanted e s f h out p q = other_by wanted e.heard e (rounds (moments p)) refl f (h p q) (out p q).listens.hears.rounds_so
 
 may_connect : (wanted : IndAddr) (rs : List Round) → FoundOther wanted rs → MayAsk wanted rs Connect
 may_connect wanted [] h = absurd h
 may_connect wanted (r ∷ before) h = Connects h.0 h.1
 
-pub connect_turn : (wanted : IndAddr) (e : Ear) (s : Story) → WhereExact (λ places. FoundOther wanted (rounds (moments places))) s → WhereExact (IsOut wanted e) s → WhereExact (IsTurnTo wanted Connect) s
+pub connect_turn : (wanted : IndAddr) (e : Ear) (s : Story) → WhereTold (λ places. FoundOther wanted (rounds (moments places))) s → WhereClock (IsOut wanted e) s → WhereTold (IsTurnTo wanted Connect) s
 connect_turn wanted e s h out p q = let o = out p q in record { may = may_connect wanted (rounds (moments p)) (h p q); heard_out = o.heard_out; place = o.place }
 
 -- ---- the T_Connect was put
@@ -135,7 +136,7 @@ connected_by wanted old [] m h = absurd m
 connected_by wanted [] (c ∷ rs) m h = absurd h
 connected_by wanted (r ∷ before) (c ∷ rs) m h = subst (λ (z : List Round). HasConnected wanted (c ∷ z)) (sym m.1) (m.0, h.0, h.1)
 
-pub has_connected : (wanted : IndAddr) (s t : Story) → WhereExact (λ places. FoundOther wanted (rounds (moments places))) s → Going (AsksOne wanted Connect) s t → WhereExact (λ places. HasConnected wanted (rounds (moments places))) t
+pub has_connected : (wanted : IndAddr) (s t : Story) → WhereTold (λ places. FoundOther wanted (rounds (moments places))) s → Going (AsksOne wanted Connect) s t → WhereTold (λ places. HasConnected wanted (rounds (moments places))) t
 has_connected wanted s t h m new p = let x = m new p in connected_by wanted (rounds (moments x.old)) (rounds (moments new)) x.is (h x.old x.told)
 
 -- the one that answered before is the first
@@ -155,7 +156,7 @@ may_disconnect wanted [] h = absurd h
 may_disconnect wanted (c ∷ []) h = absurd h
 may_disconnect wanted (c ∷ r ∷ before) h = Disconnects h.0
 
-pub disconnect_turn : (wanted : IndAddr) (e : Ear) (s : Story) → WhereExact (λ places. HasConnected wanted (rounds (moments places))) s → WhereExact (IsOut wanted e) s → WhereExact (IsTurnTo wanted Disconnect) s
+pub disconnect_turn : (wanted : IndAddr) (e : Ear) (s : Story) → WhereTold (λ places. HasConnected wanted (rounds (moments places))) s → WhereClock (IsOut wanted e) s → WhereTold (IsTurnTo wanted Disconnect) s
 disconnect_turn wanted e s h out p q = let o = out p q in record { may = may_disconnect wanted (rounds (moments p)) (h p q); heard_out = o.heard_out; place = o.place }
 
 pub record Tried (wanted : IndAddr) (connected : Option Bool) (d c r : Round) (before : List Round) : Type 0 where
@@ -179,8 +180,8 @@ disconnected_by wanted e (c ∷ []) (d ∷ rs) m h l some = absurd h
 disconnected_by wanted e (c ∷ r ∷ before) (d ∷ rs) m h l some =
     subst (λ (z : List Round). HasDisconnected wanted e.confirmed (d ∷ z)) (sym m.1) (record { ends = m.0; asks = h.0; confirmed = sym l.1; some = some; searches = h.1; one = h.2 })
 
-pub has_disconnected : (wanted : IndAddr) (e : Ear) (s t : Story) → WhereExact (λ places. HasConnected wanted (rounds (moments places))) s → WhereExact (IsOut wanted e) s → Going (AsksOne wanted Disconnect) s t
-    → WhereExact (λ places. HasDisconnected wanted e.confirmed (rounds (moments places))) t
+pub has_disconnected : (wanted : IndAddr) (e : Ear) (s t : Story) → WhereTold (λ places. HasConnected wanted (rounds (moments places))) s → WhereClock (IsOut wanted e) s → Going (AsksOne wanted Disconnect) s t
+    → WhereTold (λ places. HasDisconnected wanted e.confirmed (rounds (moments places))) t
 has_disconnected wanted e s t h out m new p =
     let x = m new p in
     let o = out x.old x.told in
@@ -211,9 +212,9 @@ tried_rounds wanted assigned connected e (d ∷ []) t h l = absurd h
 tried_rounds wanted assigned connected e (d ∷ c ∷ []) t h l = absurd h
 tried_rounds wanted assigned connected e (d ∷ c ∷ r ∷ before) t h l = tried_by wanted assigned e.heard connected e d c r before refl t h l.0
 
-pub tried_gives : (wanted : IndAddr) (assigned : Assigned) (connected : Option Bool) (e : Ear) (s : Story) → TriedBy e.heard connected (Some assigned) → WhereExact (λ places. HasDisconnected wanted connected (rounds (moments places))) s → WhereExact (IsOut wanted e) s
-    → WhereExact (AnsweredBy wanted assigned) s
-tried_gives wanted assigned connected e s t h out p q = let o = out p q in answer wanted assigned e p o (tried_rounds wanted assigned connected e (rounds (moments p)) t (h p q) o.listens.hears.rounds_so)
+pub tried_gives : (wanted : IndAddr) (assigned : Assigned) (connected : Option Bool) (e : Ear) (s : Story) → TriedBy e.heard connected (Some assigned) → WhereTold (λ places. HasDisconnected wanted connected (rounds (moments places))) s → WhereClock (IsOut wanted e) s
+    → WhereClock (AnsweredBy wanted assigned) s
+tried_gives wanted assigned connected e s t h out p q = let o = out p q in answer wanted assigned e (clock_of s) p o (tried_rounds wanted assigned connected e (rounds (moments p)) t (h p q) o.listens.hears.rounds_so)
 
 may_write : (wanted : IndAddr) (heard : Heard) (connected : Option Bool) (e : Ear) (d c r : Round) (before : List Round) → e.heard ≡ heard → TriedBy heard connected None → Tried wanted connected d c r before → HeardSo e.heard (answers (d ∷ c ∷ r ∷ before))
     → MayAsk wanted (d ∷ c ∷ r ∷ before) Write
@@ -232,7 +233,7 @@ write_rounds wanted connected e (d ∷ []) t h l = absurd h
 write_rounds wanted connected e (d ∷ c ∷ []) t h l = absurd h
 write_rounds wanted connected e (d ∷ c ∷ r ∷ before) t h l = may_write wanted e.heard connected e d c r before refl t h l.0
 
-pub write_turn : (wanted : IndAddr) (connected : Option Bool) (e : Ear) (s : Story) → TriedBy e.heard connected None → WhereExact (λ places. HasDisconnected wanted connected (rounds (moments places))) s → WhereExact (IsOut wanted e) s → WhereExact (IsTurnTo wanted Write) s
+pub write_turn : (wanted : IndAddr) (connected : Option Bool) (e : Ear) (s : Story) → TriedBy e.heard connected None → WhereTold (λ places. HasDisconnected wanted connected (rounds (moments places))) s → WhereClock (IsOut wanted e) s → WhereTold (IsTurnTo wanted Write) s
 write_turn wanted connected e s t h out p q =
     let o = out p q in
     record { may = write_rounds wanted connected e (rounds (moments p)) t (h p q) o.listens.hears.rounds_so; heard_out = o.heard_out; place = o.place }
@@ -251,10 +252,10 @@ may_read : (wanted : IndAddr) (rs : List Round) → HasWritten wanted rs → May
 may_read wanted [] h = absurd h
 may_read wanted (w ∷ rs) h = ReadsLast h
 
-pub has_written : (wanted : IndAddr) (s t : Story) → Going (AsksOne wanted Write) s t → WhereExact (λ places. HasWritten wanted (rounds (moments places))) t
+pub has_written : (wanted : IndAddr) (s t : Story) → Going (AsksOne wanted Write) s t → WhereTold (λ places. HasWritten wanted (rounds (moments places))) t
 has_written wanted s t m new p = let x = m new p in written_by wanted (rounds (moments x.old)) (rounds (moments new)) x.is
 
-pub last_turn : (wanted : IndAddr) (e : Ear) (s : Story) → WhereExact (λ places. HasWritten wanted (rounds (moments places))) s → WhereExact (IsOut wanted e) s → WhereExact (IsTurnTo wanted Read) s
+pub last_turn : (wanted : IndAddr) (e : Ear) (s : Story) → WhereTold (λ places. HasWritten wanted (rounds (moments places))) s → WhereClock (IsOut wanted e) s → WhereTold (IsTurnTo wanted Read) s
 last_turn wanted e s h out p q = let o = out p q in record { may = may_read wanted (rounds (moments p)) (h p q); heard_out = o.heard_out; place = o.place }
 
 sure_by : (wanted : IndAddr) (assigned : Assigned) (heard : Heard) (e : Ear) (v w : Round) (rs : List Round) → e.heard ≡ heard → SureSo wanted heard assigned → AsksFor wanted Read v → AsksFor wanted Write w → HeardSo heard (answers (v ∷ w ∷ rs)) → Gives wanted (v ∷ w ∷ rs) assigned
@@ -287,18 +288,18 @@ last_rounds wanted assigned e (w ∷ ws) (v ∷ rs) m h l s =
     let heard : HeardSo e.heard (answers (v ∷ w ∷ ws)) = subst (λ (z : List Round). HeardSo e.heard (answers (v ∷ z))) m.1 l.0 in
     subst (λ (z : List Round). Gives wanted (v ∷ z) assigned) (sym m.1) (sure_by wanted assigned e.heard e v w ws refl s m.0 h heard)
 
-pub sure_gives : (wanted : IndAddr) (assigned : Assigned) (e : Ear) (s t : Story) → WhereExact (λ places. HasWritten wanted (rounds (moments places))) s → Going (AsksOne wanted Read) s t → WhereExact (IsOut wanted e) t → SureSo wanted e.heard assigned → WhereExact (AnsweredBy wanted assigned) t
+pub sure_gives : (wanted : IndAddr) (assigned : Assigned) (e : Ear) (s t : Story) → WhereTold (λ places. HasWritten wanted (rounds (moments places))) s → Going (AsksOne wanted Read) s t → WhereClock (IsOut wanted e) t → SureSo wanted e.heard assigned → WhereClock (AnsweredBy wanted assigned) t
 sure_gives wanted assigned e s t h m out sure p q =
     let x = m p q in
     let o = out p q in
-    answer wanted assigned e p o (last_rounds wanted assigned e (rounds (moments x.old)) (rounds (moments p)) x.is (h x.old x.told) o.listens.hears.rounds_so sure)
+    answer wanted assigned e (clock_of t) p o (last_rounds wanted assigned e (rounds (moments x.old)) (rounds (moments p)) x.is (h x.old x.told) o.listens.hears.rounds_so sure)
 
 -- ---- the third read, by its answer
 
-pub third_searched : (wanted : IndAddr) (e f : Ear) (s t : Story) (result : Result (Unit {0}) AssignFault) → WhereExact (λ places. HasRead wanted 1 (rounds (moments places))) s → WhereExact (IsOut wanted e) s → e.heard ≡ ear.Nobody → OnOk result (Going (AsksOne wanted Read) s t) → OnOk result (WhereExact (IsOut wanted f) t)
-    → OnOk result (WhereExact (λ places. SearchedSo wanted f.heard (rounds (moments places))) t)
+pub third_searched : (wanted : IndAddr) (e f : Ear) (s t : Story) (result : Result (Unit {0}) AssignFault) → WhereTold (λ places. HasRead wanted 1 (rounds (moments places))) s → WhereClock (IsOut wanted e) s → e.heard ≡ ear.Nobody → OnOk result (Going (AsksOne wanted Read) s t) → OnOk result (WhereClock (IsOut wanted f) t)
+    → OnOk result (WhereTold (λ places. SearchedSo wanted f.heard (rounds (moments places))) t)
 third_searched wanted e f s t (Ok done) h out none m o = anybody wanted f t (next_read wanted 1 e s t h out none m) o
 third_searched wanted e f s t (Err why) h out none m o = tt
 
-pub out_listens : (wanted : IndAddr) (e : Ear) (s : Story) → WhereExact (IsOut wanted e) s → WhereExact (Listens wanted e) s
+pub out_listens : (wanted : IndAddr) (e : Ear) (s : Story) → WhereClock (IsOut wanted e) s → WhereClock (Listens wanted e) s
 out_listens wanted e s out p q = (out p q).listens

@@ -9,7 +9,7 @@ use Rattle.line_model.specs.ClientView.{Loses, Takes}
 use Rattle.line_model.specs.Closing.{asks_to_end}
 use Rattle.line_model.specs.Haste.{KeepsPaces}
 use Rattle.line_model.specs.Leaves.{StaysOpen}
-use Rattle.line_model.specs.LinkStory.{Story, clock_of, newest_time}
+use Rattle.line_model.specs.LinkStory.{Story, Exact, clock_of, newest_time, places_in}
 use Rattle.line_model.specs.Moments.{Moment, moments, is_loss}
 use Rattle.line_model.specs.Record.{Item, Put, Renewed, Got, Quiet, Entry, Placed, entries, is_got, is_poll, is_renewal}
 use Rattle.line_model.specs.Waiting.{longest_poll}
@@ -22,18 +22,17 @@ use Rattle.tunnel_link.specs.Adds.{Growing, Acts, PollAdds, Leaves, Brings, Does
 use Rattle.tunnel_link.specs.Alone.{Each, LeavesAlone, Nothing, Once, SendsOnce}
 use Rattle.tunnel_link.specs.Goes.{GoesOn}
 use Rattle.tunnel_link.specs.Paces.{TakesNoTime, BeatsInTime, PollsWithin}
-use Rattle.tunnel_link.specs.Rights.{IsOfTunnel}
+use Rattle.tunnel_link.specs.Rights.{IsOfTunnel, WhereTold}
 use Rattle.address_talk.specs.declared.assigned.AssignFault.{AssignFault}
 use Rattle.address_talk.specs.declared.assigned.AssignFault.TheVariants as fails
 use Rattle.address_talk.specs.Rounds.{has_lost}
-use Rattle.address_commission.specs.Going.{ComesFrom, Going}
+use Rattle.address_commission.specs.Going.{ComesFrom, GoingExact}
 use Rattle.address_talk.specs.Ends.{AwaitsResponse, ComesLate, FailsSo, LeavesOn, EndsOnce, datagrams_in}
 use Rattle.address_commission.specs.Calls.{CausedBy, HasAwaited, LeavesSince, LeftOn, PaceKept, ToldAs, fault_of, got_one}
-use Rattle.address_commission.proofs.Exacts.{is_exact}
 use Rattle.address_commission.proofs.Folds.{NoGot, nothing_lost, one_lost, sends_no_got, quiet_no_got}
 use Rattle.address_commission.proofs.Pacing.{also, not_both, alone_paces, poll_paces, newest_within}
 use Rattle.address_commission.proofs.Steps.{Step, step_of, some_is}
-use Rattle.address_commission.specs.Exact.{WhereExact, exact_places_in}
+use Rattle.address_commission.specs.Exact.{WhereExact}
 
 -- ---- the channel is lost or stays
 
@@ -113,9 +112,9 @@ timeless_time [] old t = refl
 timeless_time (p ∷ added) old t = t.0.still ∙ timeless_time added old t.1
 
 pub acts_left : (acted : Bool) (left : ℕ) (talk : List Placed) (s t : Story) → GoesOn s t → Growing (Acts (Ok acted)) s t → Growing (Each TakesNoTime) s t → WhereExact (LeavesSince left talk) s → WhereExact (LeavesSince left talk) t
-acts_left acted left talk s t g h time l new p =
+acts_left acted left talk s t g h time l new p exact =
     let x = step_of (Acts (Ok acted)) s t new g h p in
-    let was = l x.old x.told in
+    let was = l x.old x.told (sym x.clock ∙ exact) in
     let still : newest_time (entries new) ≡ newest_time (entries x.old) = ap (λ z. newest_time (entries z)) x.grow ∙ timeless_time x.added x.old (also (Acts (Ok acted)) (Each TakesNoTime) s t new x time p) in
     let le = was.in_time in
     let c = was.count in
@@ -129,22 +128,22 @@ acts_left acted left talk s t g h time l new p =
       count = omega (arith, c, b, n);
     }
 
-pub acts_time : (acted : Bool) (now : ℕ) (s t : Story) → GoesOn s t → Growing (Acts (Ok acted)) s t → Growing (Each TakesNoTime) s t → WhereExact (λ places. now ≡ newest_time (entries places)) s → WhereExact (λ places. now ≡ newest_time (entries places)) t
+pub acts_time : (acted : Bool) (now : ℕ) (s t : Story) → GoesOn s t → Growing (Acts (Ok acted)) s t → Growing (Each TakesNoTime) s t → WhereTold (λ places. now ≡ newest_time (entries places)) s → WhereTold (λ places. now ≡ newest_time (entries places)) t
 acts_time acted now s t g h time l new p =
     let x = step_of (Each TakesNoTime) s t new g time p in
     l x.old x.told ∙ sym (ap (λ z. newest_time (entries z)) x.grow ∙ timeless_time x.added x.old x.is)
 
 -- ---- a poll
 
-pub poll_left : (polled : Came) (longest left now : ℕ) (talk : List Placed) (s t : Story) → GoesOn s t → Growing (PollAdds (Ok polled)) s t → Growing (PollsWithin (clock_of s) longest) s t → WhereExact (λ places. now ≡ newest_time (entries places)) s → now + longest ≤ newest_time (entries talk) + answer_wait → 1 ≤ left
+pub poll_left : (polled : Came) (longest left now : ℕ) (talk : List Placed) (s t : Story) → GoesOn s t → Growing (PollAdds (Ok polled)) s t → Growing (PollsWithin (clock_of s) longest) s t → WhereTold (λ places. now ≡ newest_time (entries places)) s → now + longest ≤ newest_time (entries talk) + answer_wait → 1 ≤ left
     → WhereExact (LeavesSince left talk) s → WhereExact (LeftOn polled left talk) t
-poll_left polled longest left now talk s t g h within time until some l new p =
+poll_left polled longest left now talk s t g h within time until some l new p exact =
     let x = step_of (PollAdds (Ok polled)) s t new g h p in
-    let was = l x.old x.told in
+    let was = l x.old x.told (sym x.clock ∙ exact) in
     let w = also (PollAdds (Ok polled)) (PollsWithin (clock_of s) longest) s t new x within p in
     let at : now ≡ newest_time (entries x.old) = time x.old x.told in
     let bound : ℕ = newest_time (entries x.old) + min longest longest_poll in
-    let there : newest_time (entries (x.added ++ x.old)) ≤ bound = newest_within bound x.added x.old (omega arith) (w.in_time (is_exact s x.old x.told)) in
+    let there : newest_time (entries (x.added ++ x.old)) ≤ bound = newest_within bound x.added x.old (omega arith) (w.in_time (sym x.clock ∙ exact)) in
     let le : newest_time (entries new) ≤ bound = subst (λ z. newest_time (entries z) ≤ bound) (sym x.grow) there in
     let c = was.count in
     let b = both_in x.added was.added in
@@ -177,9 +176,9 @@ poll_left polled longest left now talk s t g h within time until some l new p =
 
 -- ---- enough was waited
 
-pub waited : (left began now : ℕ) (talk : List Placed) (s : Story) → WhereExact (λ places. now ≡ newest_time (entries places)) s → newest_time (entries talk) ≡ began → (left ≡ 0) ⊎ (10000 ≤ now - began) → WhereExact (LeavesSince left talk) s → WhereExact (HasAwaited talk) s
-waited left began now talk s time is enough l places p =
-    let was = l places p in
+pub waited : (left began now : ℕ) (talk : List Placed) (s : Story) → WhereTold (λ places. now ≡ newest_time (entries places)) s → newest_time (entries talk) ≡ began → (left ≡ 0) ⊎ (10000 ≤ now - began) → WhereExact (LeavesSince left talk) s → WhereExact (HasAwaited talk) s
+waited left began now talk s time is enough l places p exact =
+    let was = l places p exact in
     let at : now ≡ newest_time (entries places) = time places p in
     let le = was.in_time in
     let c = was.count in
@@ -218,8 +217,8 @@ once_no_got old _ (Once p still seeks) t = none_in (p ∷ []) (by_item p.what.wh
   by_item (Got octets) h = absurd (cc)
   by_item Quiet h = refl
 
-pub request_left : (call : Result Bool HubFault) (talk : List Placed) (s t : Story) → GoesOn s t → Growing (Leaves call) s t → Growing SendsOnce s t → Growing (Each TakesNoTime) s t → exact_places_in s ≡ Some talk → WhereExact (λ places. has_lost (moments places) ≡ false) s → WhereExact (LeavesSince 64 talk) t
-request_left call talk s t g h once time told kept new p =
+pub request_left : (call : Result Bool HubFault) (talk : List Placed) (s t : Story) → GoesOn s t → Growing (Leaves call) s t → Growing SendsOnce s t → Growing (Each TakesNoTime) s t → places_in s ≡ Some talk → WhereTold (λ places. has_lost (moments places) ≡ false) s → WhereExact (LeavesSince 64 talk) t
+request_left call talk s t g h once time told kept new p exact =
     let x = step_of (Leaves call) s t new g h p in
     let same : x.old ≡ talk = some_is x.old talk (sym x.told ∙ told) in
     let still = timeless_time x.added x.old (also (Leaves call) (Each TakesNoTime) s t new x time p) in
@@ -235,15 +234,15 @@ request_left call talk s t g h once time told kept new p =
 
 -- ---- the pace
 
-pub alone_kept : (s t : Story) → GoesOn s t → Growing (Each TakesNoTime) s t → Growing (Each LeavesAlone) s t → Going PaceKept s t
-alone_kept s t g time alone new p =
+pub alone_kept : (s t : Story) → GoesOn s t → Growing (Each TakesNoTime) s t → Growing (Each LeavesAlone) s t → GoingExact PaceKept s t
+alone_kept s t g time alone new p exact =
     let x = step_of (Each TakesNoTime) s t new g time p in
-    record { old = x.old; told = x.told; is = λ k. subst (λ z. KeepsPaces (entries z)) (sym x.grow) (alone_paces x.added x.old x.is (also (Each TakesNoTime) (Each LeavesAlone) s t new x alone p) k) }
+    record { old = x.old; told = x.told; clock = x.clock; is = λ k. subst (λ z. KeepsPaces (entries z)) (sym x.grow) (alone_paces x.added x.old x.is (also (Each TakesNoTime) (Each LeavesAlone) s t new x alone p) k) }
 
-pub poll_kept : (longest : ℕ) (s t : Story) → GoesOn s t → Growing (PollsWithin (clock_of s) longest) s t → Growing (Each BeatsInTime) s t → Growing (Each LeavesAlone) s t → Going PaceKept s t
-poll_kept longest s t g within beats alone new p =
+pub poll_kept : (longest : ℕ) (s t : Story) → GoesOn s t → Growing (PollsWithin (clock_of s) longest) s t → Growing (Each BeatsInTime) s t → Growing (Each LeavesAlone) s t → GoingExact PaceKept s t
+poll_kept longest s t g within beats alone new p exact =
     let x = step_of (PollsWithin (clock_of s) longest) s t new g within p in
-    record { old = x.old; told = x.told; is = λ k. subst (λ z. KeepsPaces (entries z)) (sym x.grow) (poll_paces x.added x.old (x.is.short (is_exact s x.old x.told)) (also (PollsWithin (clock_of s) longest) (Each BeatsInTime) s t new x beats p) (also (PollsWithin (clock_of s) longest) (Each LeavesAlone) s t new x alone p) k) }
+    record { old = x.old; told = x.told; clock = x.clock; is = λ k. subst (λ z. KeepsPaces (entries z)) (sym x.grow) (poll_paces x.added x.old (x.is.short (sym x.clock ∙ exact)) (also (PollsWithin (clock_of s) longest) (Each BeatsInTime) s t new x beats p) (also (PollsWithin (clock_of s) longest) (Each LeavesAlone) s t new x alone p) k) }
 
 once_paces : (old added : List Placed) → SendsOnce old added → Each TakesNoTime old added → StaysOpen (entries old) → KeepsPaces (entries old) → KeepsPaces (entries (added ++ old))
 once_paces old _ Nothing t s k = k
@@ -257,19 +256,19 @@ once_paces old _ (Once p still seeks) t s k = (
   k,
 )
 
-pub leave_kept : (s t : Story) → GoesOn s t → Growing SendsOnce s t → Growing (Each TakesNoTime) s t → WhereExact (λ places. StaysOpen (entries places)) s → Going PaceKept s t
-leave_kept s t g once time stays new p =
+pub leave_kept : (s t : Story) → GoesOn s t → Growing SendsOnce s t → Growing (Each TakesNoTime) s t → WhereTold (λ places. StaysOpen (entries places)) s → GoingExact PaceKept s t
+leave_kept s t g once time stays new p exact =
     let x = step_of SendsOnce s t new g once p in
-    record { old = x.old; told = x.told; is = λ k. subst (λ z. KeepsPaces (entries z)) (sym x.grow) (once_paces x.old x.added x.is (also SendsOnce (Each TakesNoTime) s t new x time p) (stays x.old x.told) k) }
+    record { old = x.old; told = x.told; clock = x.clock; is = λ k. subst (λ z. KeepsPaces (entries z)) (sym x.grow) (once_paces x.old x.added x.is (also SendsOnce (Each TakesNoTime) s t new x time p) (stays x.old x.told) k) }
 
-pub paces_then : (s t u : Story) → Going PaceKept s t → Going PaceKept t u → Going PaceKept s u
-paces_then s t u a b new p =
-    let y = b new p in
-    let x = a y.old y.told in
-    record { old = x.old; told = x.told; is = λ k. y.is (x.is k) }
+pub paces_then : (s t u : Story) → GoingExact PaceKept s t → GoingExact PaceKept t u → GoingExact PaceKept s u
+paces_then s t u a b new p exact =
+    let y = b new p exact in
+    let x = a y.old y.told (sym y.clock ∙ exact) in
+    record { old = x.old; told = x.told; clock = y.clock ∙ x.clock; is = λ k. y.is (x.is k) }
 
-pub paces_same : (s : Story) → Going PaceKept s s
-paces_same s new p = record { old = new; told = p; is = λ k. k }
+pub paces_same : (s : Story) → GoingExact PaceKept s s
+paces_same s new p exact = record { old = new; told = p; clock = refl; is = λ k. k }
 
 -- ---- which faults come
 
@@ -293,14 +292,14 @@ pub told_lates : {X : Type 0} (call : Result X HubFault) (result : Result X Assi
 told_lates call (Ok x) told of = tt
 told_lates call (Err why) told of = told_late call why told of
 
-pub told_causes : {X : Type 0} (result : Result X AssignFault) (t : Story) → WhereExact (CausedBy result) t → IfErr result (λ why. WhereExact (FailsSo why) t)
+pub told_causes : {X : Type 0} (result : Result X AssignFault) (t : Story) → WhereTold (CausedBy result) t → IfErr result (λ why. WhereTold (FailsSo why) t)
 told_causes (Ok x) t h = tt
 told_causes (Err why) t h = h
 
 -- ---- a poll, by what was told of it
 
 pub told_left : (call : Result Came HubFault) (result : Result Came AssignFault) → ToldAs call result → (acted : Bool) (longest : ℕ) (s t u : Story) → GoesOn s t → Growing (Acts (Ok acted)) s t → Growing (Each TakesNoTime) s t → GoesOn t u → Growing (PollAdds call) t u → Growing (PollsWithin (clock_of t) longest) t u
-    → IfOk result (λ polled. (left : ℕ) (talk : List Placed) (now : ℕ) → WhereExact (λ places. now ≡ newest_time (entries places)) s → now + longest ≤ newest_time (entries talk) + answer_wait → 1 ≤ left → WhereExact (LeavesSince left talk) s → WhereExact (LeftOn polled left talk) u)
+    → IfOk result (λ polled. (left : ℕ) (talk : List Placed) (now : ℕ) → WhereTold (λ places. now ≡ newest_time (entries places)) s → now + longest ≤ newest_time (entries talk) + answer_wait → 1 ≤ left → WhereExact (LeavesSince left talk) s → WhereExact (LeftOn polled left talk) u)
 told_left (Ok polled) (Err why) told acted longest s t u g h time k adds within = tt
 told_left (Err fault) (Err why) told acted longest s t u g h time k adds within = tt
 told_left (Err fault) (Ok polled) told acted longest s t u g h time k adds within = absurd (cc)
@@ -310,13 +309,14 @@ told_left (Ok polled) (Ok same) told acted longest s t u g h time k adds within 
 
 -- ---- all of it
 
-pub awaits_after : (s u : Story) (talk : List Placed) → exact_places_in s ≡ Some talk → WhereExact (HasAwaited talk) u → (new : List Placed) → exact_places_in u ≡ Some new → Step EndsOnce s new → ComesFrom LeavesOn s new
-awaits_after s u talk told awaited new p x =
+pub awaits_after : (s u : Story) (talk : List Placed) → places_in s ≡ Some talk → WhereExact (HasAwaited talk) u → (new : List Placed) → places_in u ≡ Some new → clock_of u ≡ Exact → Step EndsOnce s u new → ComesFrom LeavesOn s u new
+awaits_after s u talk told awaited new p exact x =
     let same : x.old ≡ talk = some_is x.old talk (sym x.told ∙ told) in
-    let h = awaited new p in
+    let h = awaited new p exact in
     let added : h.added ≡ x.added = append_cancel_right h.added x.added talk (sym h.all ∙ (x.grow ∙ ap (λ z. x.added ++ z) same)) in
     record {
       old = x.old;
       told = x.told;
+      clock = x.clock;
       is = record { added = x.added; all = x.grow; ends = x.is; awaits = subst (λ z. AwaitsResponse z x.added) (sym same) (subst (AwaitsResponse talk) added h.awaits) };
     }

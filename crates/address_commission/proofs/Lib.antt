@@ -1,4 +1,3 @@
-pub mod Exacts
 pub mod Folds
 pub mod Heard
 pub mod Steps

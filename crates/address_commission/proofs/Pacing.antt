@@ -11,29 +11,28 @@ use Rattle.line_model.specs.ClientView.{ClientChannel, Fresh, Sought, RefusedBy,
 use Rattle.line_model.specs.Closing.{is_open}
 use Rattle.line_model.specs.Haste.{KeepsPaces}
 use Rattle.line_model.specs.Leaves.{StaysOpen}
-use Rattle.line_model.specs.LinkStory.{Story, Exact, newest_time}
+use Rattle.line_model.specs.LinkStory.{Story, Exact, newest_time, places_in}
 use Rattle.line_model.specs.Moments.{moments, is_loss}
 use Rattle.line_model.specs.Reading.{is_connect_request, request_in}
 use Rattle.line_model.specs.Record.{Item, Put, Renewed, Got, Quiet, Entry, Placed, entries, is_got, is_poll, is_renewal, put_in, got_in}
 use Rattle.line_model.specs.Waiting.{longest_poll}
 use Rattle.tunnel_link.specs.declared.came.Came.{Came}
 use Rattle.tunnel_link.specs.Adds.{Growing, Brings}
+use Rattle.tunnel_link.proofs.SeekKept.{grows_as}
 use Rattle.tunnel_link.specs.Alone.{Each, EndsNone, LeavesAlone}
 use Rattle.tunnel_link.specs.Paces.{TakesNoTime, BeatsInTime, PollsWithin}
 use Rattle.address_talk.specs.Rounds.{Round, after_deed, rounds, quiet_since, has_lost}
 use Rattle.address_talk.specs.Talk.{HeardOutBy}
 use Rattle.address_talk.specs.Pace.{WaitsSo, WaitsRightly, WaitsUntil, Paced, PacedUntil}
 use Rattle.address_commission.specs.Listening.{AwaitsFor}
-use Rattle.address_commission.proofs.Exacts.{told_too}
 use Rattle.address_commission.proofs.Folds.{NoGot, left_false, right_false, quiet_on, quiet_no_got}
 use Rattle.address_commission.proofs.Steps.{Step, some_is}
-use Rattle.address_commission.specs.Exact.{exact_places_in}
 
 -- another thing of what was added
-pub also : (P Q : List Placed → List Placed → Type 0) (s t : Story) (new : List Placed) (x : Step P s new) → Growing Q s t → exact_places_in t ≡ Some new → Q x.old x.added
+pub also : (P Q : List Placed → List Placed → Type 0) (s t : Story) (new : List Placed) (x : Step P s t new) → Growing Q s t → places_in t ≡ Some new → Q x.old x.added
 also P Q s t new x g p =
-    let y = g x.old (told_too s x.old x.told) in
-    let same : y.added ≡ x.added = append_cancel_right y.added x.added x.old (sym y.grown.grow ∙ (some_is y.new new (sym y.told ∙ told_too t new p) ∙ x.grow)) in
+    let y = g x.old x.told in
+    let same : y.added ≡ x.added = append_cancel_right y.added x.added x.old (sym y.grown.grow ∙ (some_is y.new new (sym y.told ∙ p) ∙ x.grow)) in
     subst (Q x.old) same y.is
 
 -- ---- the open channel
@@ -42,9 +41,12 @@ pub stays_on : (added old : List Placed) → Each EndsNone old added → StaysOp
 stays_on [] old h s = s
 stays_on (p ∷ added) old h s = (h.0, stays_on added old h.1 s)
 
-pub ends_none : (old added : List Placed) → Each LeavesAlone old added → Each EndsNone old added
+ends_none : (old added : List Placed) → Each LeavesAlone old added → Each EndsNone old added
 ends_none old [] h = tt
 ends_none old (p ∷ added) h = (h.0.ends_none, ends_none old added h.1)
+
+pub ends_none_of : (s t : Story) → Growing (Each LeavesAlone) s t → Growing (Each EndsNone) s t
+ends_none_of s t g = grows_as (Each LeavesAlone) (Each EndsNone) s t ends_none g
 
 pub not_both : (b : Bool) → b ≡ true → b ≡ false → ⊥
 not_both true t f = cc
@@ -68,11 +70,11 @@ pub no_waits : (wanted : IndAddr) (added old : List Placed) → Each TakesNoTime
 no_waits wanted [] old t w = w
 no_waits wanted (p ∷ added) old t w = ((λ poll lt. absurd (not_both (is_poll p.what.what) poll t.0.polls_not)), no_waits wanted added old t.1 w)
 
-pub still_paced : (wanted : IndAddr) (added old : List Placed) → Each TakesNoTime old added → Each EndsNone old added → Paced wanted old → Paced wanted (added ++ old)
-still_paced wanted added old t e p = record { keeps = no_time added old t e p.stays_open p.keeps; stays_open = stays_on added old e p.stays_open; waits = no_waits wanted added old t p.waits }
+pub still_paced : (wanted : IndAddr) (added old : List Placed) → Each TakesNoTime old added → Each EndsNone old added → StaysOpen (entries old) → Paced wanted old → Paced wanted (added ++ old)
+still_paced wanted added old t e stays p = record { keeps = no_time added old t e stays p.keeps; waits = no_waits wanted added old t p.waits }
 
 pub so_far : (wanted : IndAddr) (places : List Placed) → Paced wanted places → PacedUntil wanted places
-so_far wanted places p = record { keeps = p.keeps; stays_open = p.stays_open; waits = record { older = places; last = []; parts = refl; waits = p.waits; short = omega arith } }
+so_far wanted places p = record { keeps = p.keeps; waits = record { older = places; last = []; parts = refl; waits = p.waits; short = omega arith } }
 
 -- where nothing seeks a channel, whether or not it was asked to end
 pub alone_paces : (added old : List Placed) → Each TakesNoTime old added → Each LeavesAlone old added → KeepsPaces (entries old) → KeepsPaces (entries (added ++ old))
@@ -255,7 +257,6 @@ pub record PollsSo (longest : ℕ) (old added : List Placed) : Type 0 where
 pub poll_paced : (wanted : IndAddr) (longest : ℕ) (came : Came) (old added new : List Placed) → new ≡ added ++ old → AwaitsFor wanted longest old → Brings came old added → PollsSo longest old added → has_lost (moments new) ≡ false → Paced wanted old → Paced wanted new
 poll_paced wanted longest came old added new grow for b s kept p = subst (Paced wanted) (sym grow) (record {
   keeps = poll_paces added old (s.within.short refl) s.beats s.alone p.keeps;
-  stays_open = stays_on added old (ends_none old added s.alone) p.stays_open;
   waits = poll_waits wanted longest old for came added b (s.within.in_time refl) (subst (λ (l : List Placed). has_lost (moments l) ≡ false) grow kept) p.waits;
 })
 
@@ -263,6 +264,5 @@ poll_paced wanted longest came old added new grow for b s kept p = subst (Paced 
 pub poll_paced_until : (wanted : IndAddr) (longest : ℕ) (old added new : List Placed) → new ≡ added ++ old → PollsSo longest old added → Paced wanted old → PacedUntil wanted new
 poll_paced_until wanted longest old added new grow s p = record {
   keeps = subst (λ (l : List Placed). KeepsPaces (entries l)) (sym grow) (poll_paces added old (s.within.short refl) s.beats s.alone p.keeps);
-  stays_open = subst (λ (l : List Placed). StaysOpen (entries l)) (sym grow) (stays_on added old (ends_none old added s.alone) p.stays_open);
   waits = poll_until wanted longest added old new grow (s.within.in_time refl) p.waits;
 }

@@ -18,7 +18,7 @@ use Rattle.tunnel_link.specs.declared.came.What.{What}
 use Rattle.tunnel_link.specs.declared.came.What.TheVariants as came
 use Rattle.tunnel_link.specs.declared.came.Loss.{Loss}
 use Rattle.tunnel_link.specs.declared.came.Loss.TheVariants.{Stays}
-use Rattle.address_commission.specs.Exact.{WhereExact}
+use Rattle.address_commission.specs.Exact.{WhereClock}
 use Rattle.address_world.specs.declared.asked.Asked.{Asked}
 use Rattle.address_commission.specs.Going.{Going, AsksOne}
 use Rattle.address_commission.specs.Listening.{Listens}
@@ -55,19 +55,19 @@ CausedBy (Err fault) places = FailsSo fault places
 
 -- where it listened before it does afterwards, and P holds of how the places went on; where it failed, its cause is there, and all that was put was rightly put
 pub record TalkGoes {X : Type 0} (P : List Placed → List Placed → Type 0) (e f : Ear) (before after : Story) (result : Result X AssignFault) : Type 0 where
-  pub listens : (wanted : IndAddr) → WhereExact (Listens wanted e) before → OnOk result (WhereExact (Listens wanted f) after)
-  pub moves : (wanted : IndAddr) → WhereExact (Listens wanted e) before → OnOk result (Going P before after)
-  pub fails : (wanted : IndAddr) → WhereExact (Listens wanted e) before → IfErr result (λ fault. WhereExact (FailsRightly wanted fault) after)
+  pub listens : (wanted : IndAddr) → WhereClock (Listens wanted e) before → OnOk result (WhereClock (Listens wanted f) after)
+  pub moves : (wanted : IndAddr) → WhereClock (Listens wanted e) before → OnOk result (Going P before after)
+  pub fails : (wanted : IndAddr) → WhereClock (Listens wanted e) before → IfErr result (λ fault. WhereClock (FailsRightly wanted fault) after)
 
 -- the same of a call that puts a request, whose turn has come: where it listened before it does afterwards, and the newest round is the request's
 pub record AsksGoes {X : Type 0} (wanted : IndAddr) (asked : Asked) (e f : Ear) (before after : Story) (result : Result X AssignFault) : Type 0 where
-  pub listens : WhereExact (Listens wanted e) before → OnOk result (WhereExact (Listens wanted f) after)
-  pub moves : WhereExact (Listens wanted e) before → OnOk result (Going (AsksOne wanted asked) before after)
-  pub fails : WhereExact (Listens wanted e) before → IfErr result (λ fault. WhereExact (FailsRightly wanted fault) after)
+  pub listens : WhereClock (Listens wanted e) before → OnOk result (WhereClock (Listens wanted f) after)
+  pub moves : WhereClock (Listens wanted e) before → OnOk result (Going (AsksOne wanted asked) before after)
+  pub fails : WhereClock (Listens wanted e) before → IfErr result (λ fault. WhereClock (FailsRightly wanted fault) after)
 
 -- it failed at its cause, and all that was put was rightly put
 abbrev pub TalkFails : {X : Type 0} → IndAddr → Story → Result X AssignFault → Type 0
-TalkFails wanted after result = IfErr result (λ fault. WhereExact (FailsRightly wanted fault) after)
+TalkFails wanted after result = IfErr result (λ fault. WhereClock (FailsRightly wanted fault) after)
 
 -- the end of the channel: no request is put
 pub record ClosesSo (wanted : IndAddr) (old new : List Placed) : Type 0 where

@@ -5,7 +5,7 @@ use Rattle.knx_model.specs.declared.address.IndAddr.{IndAddr}
 use Rattle.knx_model.specs.declared.frames.cemi.Ldata.{Ldata}
 use Rattle.line_model.specs.Asks.{HasPlace}
 use Rattle.line_model.specs.ClientView.{channel}
-use Rattle.line_model.specs.LinkStory.{newest_time}
+use Rattle.line_model.specs.LinkStory.{Clock, newest_time}
 use Rattle.tunnel_link.specs.declared.came.What.{What}
 use Rattle.tunnel_link.specs.declared.came.What.TheVariants as came
 use Rattle.address_world.specs.declared.asked.Asked.{Asked}
@@ -35,8 +35,8 @@ pub record Hears (e : Ear) (places : List Placed) : Type 0 where
   pub rounds_so : HearsRounds e (rounds (moments places))
   pub since : e.since ≡ quiet_since (entries places)
 
-pub record Listens (wanted : IndAddr) (e : Ear) (places : List Placed) : Type 0 where
-  pub stands : Stands wanted places
+pub record Listens (wanted : IndAddr) (e : Ear) (clock : Clock) (places : List Placed) : Type 0 where
+  pub stands : Stands wanted clock places
   pub hears : Hears e places
 
 -- ---- what a poll brought
@@ -86,11 +86,11 @@ pub record IsTurnTo (wanted : IndAddr) (asked : Asked) (places : List Placed) : 
   pub place : HasPlace (channel (entries places))
 
 -- the newest round is heard out, and the next request can be put
-pub record IsOut (wanted : IndAddr) (e : Ear) (places : List Placed) : Type 0 where
+pub record IsOut (wanted : IndAddr) (e : Ear) (clock : Clock) (places : List Placed) : Type 0 where
   pub heard_out : HeardOut wanted (rounds (moments places)) (entries places)
   pub place : HasPlace (channel (entries places))
   pub confirmed : e.confirmed ≢ None
-  pub listens : Listens wanted e places
+  pub listens : Listens wanted e clock places
 
 -- nothing was put yet, and a request can be put
 pub record Begins (places : List Placed) : Type 0 where

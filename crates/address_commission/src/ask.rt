@@ -7,7 +7,8 @@ ghost use Rattle.address_commission.specs.Calls.{AsksGoes, TalkFails};
 ghost use Rattle.address_talk.specs.Ends.{FailsBy};
 ghost use Rattle.address_commission.specs.Going.{AsksOne, Going};
 ghost use Rattle.address_commission.specs.Listening.{IsOut, IsTurnTo, Listens, quiet_after};
-ghost use Rattle.address_commission.specs.Exact.{WhereExact};
+ghost use Rattle.address_commission.specs.Exact.{WhereClock};
+ghost use Rattle.tunnel_link.specs.Rights.{WhereTold};
 
 use crate::ear::Ear;
 use crate::frames::request_of;
@@ -33,11 +34,11 @@ pub fn ask<R: Wait, L: Link>(
 ) -> Result<(), AssignFault>
     requires stands { tunnel.old.known.fault ≡ None }
     requires free { IsFree (L.story tunnel.old.link) }
-    requires turn { WhereExact (IsTurnTo wanted asked) (L.story tunnel.old.link) }
-    requires listens { WhereExact (Listens wanted ear.old) (L.story tunnel.old.link) }
+    requires turn { WhereTold (IsTurnTo wanted asked) (L.story tunnel.old.link) }
+    requires listens { WhereClock (Listens wanted ear.old) (L.story tunnel.old.link) }
     ensures moves { OnOk result (Going (AsksOne wanted asked) (L.story tunnel.old.link) (L.story tunnel.new.link)) }
     ensures fails { TalkFails wanted (L.story tunnel.new.link) result }
-    ensures out { OnOk result (WhereExact (IsOut wanted ear.new) (L.story tunnel.new.link)) }
+    ensures out { OnOk result (WhereClock (IsOut wanted ear.new) (L.story tunnel.new.link)) }
     ensures stands { OnOk result (tunnel.new.known.fault ≡ None) }
     ensures free { OnOk result (IsFree (L.story tunnel.new.link)) }
     ensures puts { AsksSoFar wanted (L.story tunnel.old.link) → AsksSoFar wanted (L.story tunnel.new.link) }
@@ -58,7 +59,7 @@ fn put<L: Link>(
 ) -> Result<(), AssignFault>
     requires stands { tunnel.old.known.fault ≡ None }
     requires free { IsFree (L.story tunnel.old.link) }
-    requires turn { WhereExact (IsTurnTo wanted asked) (L.story tunnel.old.link) }
+    requires turn { WhereTold (IsTurnTo wanted asked) (L.story tunnel.old.link) }
     ensures goes { AsksGoes wanted asked ear.old ear.new (L.story tunnel.old.link) (L.story tunnel.new.link) result }
     ensures stands { OnOk result (tunnel.new.known.fault ≡ None) }
     ensures puts { AsksSoFar wanted (L.story tunnel.old.link) → AsksSoFar wanted (L.story tunnel.new.link) }

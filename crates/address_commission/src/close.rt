@@ -1,7 +1,6 @@
 //! The end of the channel.
 
-ghost use Rattle.std.specs.Prelude.{◌≡◌, ◌≢◌, ◌+◌, ◌-◌, ◌<◌, ◌≤◌, ℕ, IfErr, IfOk, OnOk, None, false, true};
-ghost use Rattle.std.specs.Prelude.{List as Seq};
+ghost use Rattle.std.specs.Prelude.{◌≡◌, ◌≢◌, ◌+◌, ◌-◌, ◌<◌, ◌≤◌, ℕ, IfErr, IfOk, OnOk, None, false, true, List as Seq};
 ghost use Rattle.knx_model.specs.declared.address.IndAddr.{IndAddr as Address};
 ghost use Rattle.knx_model.specs.Outside.{Rose};
 ghost use Rattle.line_model.specs.Asks.{HasPlace};
@@ -18,9 +17,10 @@ ghost use Rattle.tunnel_link.specs.Goes.{GoesOn};
 ghost use Rattle.address_commission.specs.Always.{AsksNoOther};
 ghost use Rattle.address_commission.specs.Calls.{ClosesSo, HasAwaited, LeavesSince, LeftOn, PaceKept, got_one};
 ghost use Rattle.address_talk.specs.Ends.{ComesLate, FailsBy, FailsSo, LeavesOn};
-ghost use Rattle.address_commission.specs.Going.{Going};
+ghost use Rattle.address_commission.specs.Going.{Going, GoingExact};
 ghost use Rattle.address_talk.specs.Rounds.{has_lost};
 ghost use Rattle.address_commission.specs.Exact.{WhereExact};
+ghost use Rattle.tunnel_link.specs.Rights.{WhereTold};
 
 use crate::told::told;
 use address_talk::AssignFault;
@@ -36,13 +36,13 @@ const MOST_DATAGRAMS: u32 = 64;
 /// Asks to end the channel, and waits for the answer. A failing link and a lost channel change nothing.
 pub fn close<R: Wait, L: Link>(rt: &R, tunnel: &mut Tunnel<L>) -> Result<(), AssignFault>
     requires stands { tunnel.old.known.fault ≡ None }
-    requires place { WhereExact (λ places. HasPlace (channel (entries places))) (L.story tunnel.old.link) }
-    requires kept { WhereExact (λ places. has_lost (moments places) ≡ false) (L.story tunnel.old.link) }
-    requires stays { WhereExact (λ places. StaysOpen (entries places)) (L.story tunnel.old.link) }
+    requires place { WhereTold (λ places. HasPlace (channel (entries places))) (L.story tunnel.old.link) }
+    requires kept { WhereTold (λ places. has_lost (moments places) ≡ false) (L.story tunnel.old.link) }
+    requires stays { WhereTold (λ places. StaysOpen (entries places)) (L.story tunnel.old.link) }
     ensures closes { (wanted : Address) → Going (ClosesSo wanted) (L.story tunnel.old.link) (L.story tunnel.new.link) }
-    ensures paces { Going PaceKept (L.story tunnel.old.link) (L.story tunnel.new.link) }
-    ensures leaves { OnOk result (¬ Rose (L.faults tunnel.old.link).failed (L.faults tunnel.new.link).failed → Going LeavesOn (L.story tunnel.old.link) (L.story tunnel.new.link)) }
-    ensures fails { IfErr result (λ fault. WhereExact (FailsSo fault) (L.story tunnel.new.link)) }
+    ensures paces { GoingExact PaceKept (L.story tunnel.old.link) (L.story tunnel.new.link) }
+    ensures leaves { OnOk result (¬ Rose (L.faults tunnel.old.link).failed (L.faults tunnel.new.link).failed → GoingExact LeavesOn (L.story tunnel.old.link) (L.story tunnel.new.link)) }
+    ensures fails { IfErr result (λ fault. WhereTold (FailsSo fault) (L.story tunnel.new.link)) }
     ensures late { IfErr result ComesLate }
     ensures puts { AsksNoOther (L.story tunnel.old.link) (L.story tunnel.new.link) }
     ensures cause { IfErr result (λ fault. FailsBy fault (L.faults tunnel.old.link) (L.faults tunnel.new.link)) }
@@ -58,13 +58,13 @@ pub fn close<R: Wait, L: Link>(rt: &R, tunnel: &mut Tunnel<L>) -> Result<(), Ass
 /// Asks to end the channel, and awaits the response.
 fn leave<R: Wait, L: Link>(rt: &R, tunnel: &mut Tunnel<L>) -> Result<(), AssignFault>
     requires stands { tunnel.old.known.fault ≡ None }
-    requires place { WhereExact (λ places. HasPlace (channel (entries places))) (L.story tunnel.old.link) }
-    requires kept { WhereExact (λ places. has_lost (moments places) ≡ false) (L.story tunnel.old.link) }
-    requires stays { WhereExact (λ places. StaysOpen (entries places)) (L.story tunnel.old.link) }
+    requires place { WhereTold (λ places. HasPlace (channel (entries places))) (L.story tunnel.old.link) }
+    requires kept { WhereTold (λ places. has_lost (moments places) ≡ false) (L.story tunnel.old.link) }
+    requires stays { WhereTold (λ places. StaysOpen (entries places)) (L.story tunnel.old.link) }
     ensures closes { (wanted : Address) → Going (ClosesSo wanted) (L.story tunnel.old.link) (L.story tunnel.new.link) }
-    ensures paces { Going PaceKept (L.story tunnel.old.link) (L.story tunnel.new.link) }
-    ensures leaves { OnOk result (Going LeavesOn (L.story tunnel.old.link) (L.story tunnel.new.link)) }
-    ensures fails { IfErr result (λ fault. WhereExact (FailsSo fault) (L.story tunnel.new.link)) }
+    ensures paces { GoingExact PaceKept (L.story tunnel.old.link) (L.story tunnel.new.link) }
+    ensures leaves { OnOk result (GoingExact LeavesOn (L.story tunnel.old.link) (L.story tunnel.new.link)) }
+    ensures fails { IfErr result (λ fault. WhereTold (FailsSo fault) (L.story tunnel.new.link)) }
     ensures late { IfErr result (λ fault. fault ≢ AssignFault.LinkFailed → ComesLate fault) }
     ensures puts { AsksNoOther (L.story tunnel.old.link) (L.story tunnel.new.link) }
     ensures cause { IfErr result (λ fault. FailsBy fault (L.faults tunnel.old.link) (L.faults tunnel.new.link)) }
@@ -85,11 +85,11 @@ fn await_response<R: Wait, L: Link>(
 ) -> Result<(), AssignFault>
     requires stands { tunnel.old.known.fault ≡ None }
     ensures closes { (wanted : Address) → Going (ClosesSo wanted) (L.story tunnel.old.link) (L.story tunnel.new.link) }
-    ensures paces { Going PaceKept (L.story tunnel.old.link) (L.story tunnel.new.link) }
+    ensures paces { GoingExact PaceKept (L.story tunnel.old.link) (L.story tunnel.new.link) }
     ensures awaited { OnOk result ((talk : Seq Placed) → newest_time (entries talk) ≡ began → WhereExact (LeavesSince 64 talk) (L.story tunnel.old.link) → WhereExact (HasAwaited talk) (L.story tunnel.new.link)) }
     ensures grows { GoesOn (L.story tunnel.old.link) (L.story tunnel.new.link) }
     ensures alone { Growing (Each EndsNone) (L.story tunnel.old.link) (L.story tunnel.new.link) }
-    ensures fails { IfErr result (λ fault. WhereExact (FailsSo fault) (L.story tunnel.new.link)) }
+    ensures fails { IfErr result (λ fault. WhereTold (FailsSo fault) (L.story tunnel.new.link)) }
     ensures late { IfErr result (λ fault. fault ≢ AssignFault.LinkFailed → ComesLate fault) }
     ensures puts { AsksNoOther (L.story tunnel.old.link) (L.story tunnel.new.link) }
     ensures cause { IfErr result (λ fault. FailsBy fault (L.faults tunnel.old.link) (L.faults tunnel.new.link)) }
@@ -115,13 +115,13 @@ fn await_response<R: Wait, L: Link>(
 fn waits<L: Link>(tunnel: &mut Tunnel<L>, longest_ms: u32) -> Result<Came, AssignFault>
     requires stands { tunnel.old.known.fault ≡ None }
     ensures closes { (wanted : Address) → Going (ClosesSo wanted) (L.story tunnel.old.link) (L.story tunnel.new.link) }
-    ensures paces { Going PaceKept (L.story tunnel.old.link) (L.story tunnel.new.link) }
-    ensures awaits { IfOk result (λ came. (left : ℕ) (talk : Seq Placed) (now : ℕ) → WhereExact (λ places. now ≡ newest_time (entries places)) (L.story tunnel.old.link) → now + longest_ms ≤ newest_time (entries talk) + answer_wait
+    ensures paces { GoingExact PaceKept (L.story tunnel.old.link) (L.story tunnel.new.link) }
+    ensures awaits { IfOk result (λ came. (left : ℕ) (talk : Seq Placed) (now : ℕ) → WhereTold (λ places. now ≡ newest_time (entries places)) (L.story tunnel.old.link) → now + longest_ms ≤ newest_time (entries talk) + answer_wait
         → 1 ≤ left → WhereExact (LeavesSince left talk) (L.story tunnel.old.link) → WhereExact (LeftOn came left talk) (L.story tunnel.new.link)) }
     ensures stands { OnOk result (tunnel.new.known.fault ≡ None) }
     ensures grows { GoesOn (L.story tunnel.old.link) (L.story tunnel.new.link) }
     ensures alone { Growing (Each EndsNone) (L.story tunnel.old.link) (L.story tunnel.new.link) }
-    ensures fails { IfErr result (λ fault. WhereExact (FailsSo fault) (L.story tunnel.new.link)) }
+    ensures fails { IfErr result (λ fault. WhereTold (FailsSo fault) (L.story tunnel.new.link)) }
     ensures late { IfErr result (λ fault. fault ≢ AssignFault.LinkFailed → ComesLate fault) }
     ensures puts { AsksNoOther (L.story tunnel.old.link) (L.story tunnel.new.link) }
     ensures cause { IfErr result (λ fault. FailsBy fault (L.faults tunnel.old.link) (L.faults tunnel.new.link)) }

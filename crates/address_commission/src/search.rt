@@ -8,7 +8,8 @@ ghost use Rattle.address_commission.specs.Always.{AsksSoFar, IsFree};
 ghost use Rattle.address_commission.specs.Calls.{TalkFails};
 ghost use Rattle.address_commission.specs.Listening.{Begins, IsOut, Listens, SearchedSo};
 ghost use Rattle.address_talk.specs.Rounds.{rounds};
-ghost use Rattle.address_commission.specs.Exact.{WhereExact};
+ghost use Rattle.address_commission.specs.Exact.{WhereClock};
+ghost use Rattle.tunnel_link.specs.Rights.{WhereTold};
 
 use crate::ask::ask;
 use crate::ear::{Ear, Heard};
@@ -28,10 +29,10 @@ pub fn search<R: Wait, L: Link>(
 ) -> Result<(), AssignFault>
     requires stands { tunnel.old.known.fault ≡ None }
     requires free { IsFree (L.story tunnel.old.link) }
-    requires begins { WhereExact Begins (L.story tunnel.old.link) }
-    requires listens { WhereExact (Listens wanted ear.old) (L.story tunnel.old.link) }
-    ensures searched { OnOk result (WhereExact (λ places. SearchedSo wanted ear.new.heard (rounds (moments places))) (L.story tunnel.new.link)) }
-    ensures out { OnOk result (WhereExact (IsOut wanted ear.new) (L.story tunnel.new.link)) }
+    requires begins { WhereTold Begins (L.story tunnel.old.link) }
+    requires listens { WhereClock (Listens wanted ear.old) (L.story tunnel.old.link) }
+    ensures searched { OnOk result (WhereTold (λ places. SearchedSo wanted ear.new.heard (rounds (moments places))) (L.story tunnel.new.link)) }
+    ensures out { OnOk result (WhereClock (IsOut wanted ear.new) (L.story tunnel.new.link)) }
     ensures fails { TalkFails wanted (L.story tunnel.new.link) result }
     ensures stands { OnOk result (tunnel.new.known.fault ≡ None) }
     ensures free { OnOk result (IsFree (L.story tunnel.new.link)) }

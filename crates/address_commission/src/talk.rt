@@ -8,7 +8,8 @@ ghost use Rattle.address_commission.specs.Always.{AsksSoFar, IsFree};
 ghost use Rattle.address_commission.specs.Calls.{TalkFails};
 ghost use Rattle.address_commission.specs.Listening.{Begins, FoundSo, IsOut, Listens, SureSo, TriedBy};
 ghost use Rattle.address_talk.specs.Rounds.{rounds};
-ghost use Rattle.address_commission.specs.Exact.{WhereExact};
+ghost use Rattle.address_commission.specs.Exact.{WhereClock};
+ghost use Rattle.tunnel_link.specs.Rights.{WhereTold};
 
 use crate::ask::ask;
 use crate::ear::{Ear, Heard};
@@ -29,9 +30,9 @@ pub fn give<R: Wait, L: Link>(
 ) -> Result<Assigned, AssignFault>
     requires stands { tunnel.old.known.fault ≡ None }
     requires free { IsFree (L.story tunnel.old.link) }
-    requires begins { WhereExact Begins (L.story tunnel.old.link) }
-    requires listens { WhereExact (Listens wanted ear.old) (L.story tunnel.old.link) }
-    ensures gives { IfOk result (λ assigned. WhereExact (AnsweredBy wanted assigned) (L.story tunnel.new.link)) }
+    requires begins { WhereTold Begins (L.story tunnel.old.link) }
+    requires listens { WhereClock (Listens wanted ear.old) (L.story tunnel.old.link) }
+    ensures gives { IfOk result (λ assigned. WhereClock (AnsweredBy wanted assigned) (L.story tunnel.new.link)) }
     ensures fails { TalkFails wanted (L.story tunnel.new.link) result }
     ensures stands { OnOk result (tunnel.new.known.fault ≡ None) }
     ensures puts { AsksSoFar wanted (L.story tunnel.old.link) → AsksSoFar wanted (L.story tunnel.new.link) }

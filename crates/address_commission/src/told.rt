@@ -1,9 +1,8 @@
 //! How a fault of the client's end of the tunnel is told.
 
 ghost use Rattle.std.specs.Prelude.{◌≡◌, IfErr, Some};
-ghost use Rattle.tunnel_link.specs.Rights.{IsOfTunnel};
+ghost use Rattle.tunnel_link.specs.Rights.{IsOfTunnel, WhereTold};
 ghost use Rattle.address_commission.specs.Calls.{CausedBy, ToldAs, fault_of};
-ghost use Rattle.address_commission.specs.Exact.{WhereExact};
 
 use address_talk::AssignFault;
 use line_model::{HubFault, Link};
@@ -14,7 +13,7 @@ pub fn told<L: Link, X>(tunnel: &Tunnel<L>, call: Result<X, HubFault>) -> Result
     requires fault { IfErr call (λ fault. tunnel.now.known.fault ≡ Some fault) }
     requires by_tunnel { IfErr call IsOfTunnel }
     ensures same { ToldAs call result }
-    ensures cause { WhereExact (CausedBy result) (L.story tunnel.now.link) }
+    ensures cause { WhereTold (CausedBy result) (L.story tunnel.now.link) }
 {
     tunnel.keeps();
     match call {

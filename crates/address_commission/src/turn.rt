@@ -11,7 +11,8 @@ ghost use Rattle.address_commission.specs.Going.{Going};
 ghost use Rattle.address_talk.specs.Rounds.{SameRounds};
 ghost use Rattle.address_commission.specs.Listening.{AwaitsFor, Listens};
 ghost use Rattle.address_commission.specs.declared.ear.Ear.{Ear as HeldEar};
-ghost use Rattle.address_commission.specs.Exact.{WhereExact};
+ghost use Rattle.address_commission.specs.Exact.{WhereClock};
+ghost use Rattle.tunnel_link.specs.Rights.{WhereTold};
 
 use crate::ear::Ear;
 use crate::told::told;
@@ -58,7 +59,7 @@ pub fn poll<L: Link>(
 ) -> Result<(), AssignFault>
     requires stands { tunnel.old.known.fault ≡ None }
     requires acted { HasActed tunnel.old.known (L.story tunnel.old.link) }
-    requires awaits { (wanted : Address) → WhereExact (Listens wanted ear.old) (L.story tunnel.old.link) → WhereExact (AwaitsFor wanted longest_ms) (L.story tunnel.old.link) }
+    requires awaits { (wanted : Address) → WhereClock (Listens wanted ear.old) (L.story tunnel.old.link) → WhereTold (AwaitsFor wanted longest_ms) (L.story tunnel.old.link) }
     ensures goes { TalkGoes SameRounds ear.old ear.new (L.story tunnel.old.link) (L.story tunnel.new.link) result }
     ensures same { Going SameRounds (L.story tunnel.old.link) (L.story tunnel.new.link) }
     ensures stands { OnOk result (tunnel.new.known.fault ≡ None) }

@@ -9,7 +9,7 @@ ghost use Rattle.address_commission.specs.Always.{AsksNoOther, IsFree};
 ghost use Rattle.address_commission.specs.Calls.{TalkGoes};
 ghost use Rattle.address_talk.specs.Rounds.{SameRounds, rounds};
 ghost use Rattle.address_commission.specs.Listening.{HasWaited, ListensFor};
-ghost use Rattle.address_commission.specs.Exact.{WhereExact};
+ghost use Rattle.tunnel_link.specs.Rights.{WhereTold};
 
 use crate::ear::Ear;
 use crate::turn::{act, poll};
@@ -26,9 +26,9 @@ pub fn wait_out<R: Wait, L: Link>(
     quiet_ms: u32,
 ) -> Result<(), AssignFault>
     requires stands { tunnel.old.known.fault ≡ None }
-    requires for_it { WhereExact (λ places. ListensFor quiet_ms (rounds (moments places))) (L.story tunnel.old.link) }
+    requires for_it { WhereTold (λ places. ListensFor quiet_ms (rounds (moments places))) (L.story tunnel.old.link) }
     ensures goes { TalkGoes SameRounds ear.old ear.new (L.story tunnel.old.link) (L.story tunnel.new.link) result }
-    ensures waited { OnOk result (WhereExact (HasWaited quiet_ms ear.new) (L.story tunnel.new.link)) }
+    ensures waited { OnOk result (WhereTold (HasWaited quiet_ms ear.new) (L.story tunnel.new.link)) }
     ensures stands { OnOk result (tunnel.new.known.fault ≡ None) }
     ensures free { OnOk result (IsFree (L.story tunnel.new.link)) }
     ensures puts { AsksNoOther (L.story tunnel.old.link) (L.story tunnel.new.link) }
@@ -50,9 +50,9 @@ pub fn wait_out<R: Wait, L: Link>(
 /// Whether the last request is acknowledged and confirmed, and so many milliseconds in turn were quiet.
 fn has_waited<L: Link>(tunnel: &Tunnel<L>, ear: &Ear, quiet_ms: u32) -> bool
     requires stands { tunnel.now.known.fault ≡ None }
-    ensures waited { result ≡ true → WhereExact (HasWaited quiet_ms ear.now) (L.story tunnel.now.link) }
+    ensures waited { result ≡ true → WhereTold (HasWaited quiet_ms ear.now) (L.story tunnel.now.link) }
     ensures free { result ≡ true → IsFree (L.story tunnel.now.link) }
-    ensures waits { result ≡ false → WhereExact (λ places. ¬ HasWaited quiet_ms ear.now places) (L.story tunnel.now.link) }
+    ensures waits { result ≡ false → WhereTold (λ places. ¬ HasWaited quiet_ms ear.now places) (L.story tunnel.now.link) }
 {
     let has_place = tunnel.has_place();
     let passed = tunnel.now().saturating_sub(ear.since);

@@ -1,5 +1,5 @@
 -- What the rounds give is what the units determine, where the newest round is heard out.
-use Rattle.std.proofs.Common.{◌≡◌, ℕ, suc, ◌+◌, ◌≤◌, List, [], ◌∷◌, ◌++◌, length, map, Bool, true, false, not, cond, Some, refl, sym, ◌∙◌, ap, subst, inl, inr, arith, get_or}
+use Rattle.std.proofs.Common.{◌≡◌, ℕ, suc, ◌≤◌, List, [], ◌∷◌, ◌++◌, length, map, Bool, true, false, not, cond, Some, refl, sym, ◌∙◌, ap, subst, inl, inr, arith, get_or}
 use Rattle.std.specs.Prelude.{Contains, ◌==◌, ◌||◌}
 use Rattle.knx_model.specs.declared.address.IndAddr.{IndAddr}
 use Rattle.knx_model.specs.declared.frames.cemi.Ldata.{Ldata}

@@ -9,7 +9,7 @@ use Rattle.line_model.specs.ClientView.{Deed, Puts, Takes, Loses, Nothing, chann
 use Rattle.line_model.specs.Faults.{tries}
 use Rattle.line_model.specs.Haste.{KeepsPaces}
 use Rattle.line_model.specs.Leaves.{StaysOpen}
-use Rattle.line_model.specs.LinkStory.{newest_time}
+use Rattle.line_model.specs.LinkStory.{Exact, newest_time}
 use Rattle.line_model.specs.Moments.{moments, is_loss}
 use Rattle.line_model.specs.Record.{Item, Entry, Placed, counted, entries, entry, item_of, noted, tunnel_record}
 use Rattle.line_model.specs.Renews.{RenewsRightly, AcknowledgesRightly}
@@ -146,10 +146,10 @@ module _ (wanted : IndAddr) (start : AddressWorld) where
   -- ---- the answer
 
   -- at the moment of the answer
-  ended : (past : List AddressEvent) (talk : List Placed) (assigned : Assigned) → Client past → record_at start past ≡ entries talk → AnsweredBy wanted assigned talk → Ended wanted start.units (replay start past).units assigned
+  ended : (past : List AddressEvent) (talk : List Placed) (assigned : Assigned) → Client past → record_at start past ≡ entries talk → AnsweredBy wanted assigned Exact talk → Ended wanted start.units (replay start past).units assigned
   ended past talk assigned c is a =
       let r : List Entry = record_at start past in
-      let l : Alive wanted start past = live past c (subst KeepsPaces (sym is) a.stands.paced.keeps) (subst StaysOpen (sym is) a.stands.paced.stays_open) in
+      let l : Alive wanted start past = live past c (subst KeepsPaces (sym is) (a.stands.paced refl).keeps) (subst StaysOpen (sym is) a.stands.stays_open) in
       let x : Ridden (Now wanted start.units r (replay start past).units) = ridden (Now wanted start.units r (replay start past).units) r (replay start past).tunnel l in
       let same : rounds (moments talk) ≡ rounds_of r = rounds_are talk ∙ ap rounds_of (sym is) in
       let out : HeardOutBy wanted (rounds_of r) (quiet_since r) (newest_time r)
@@ -216,13 +216,13 @@ module _ (wanted : IndAddr) (start : AddressWorld) where
       by_answer Unconfirmed none told held = elim told [ ]
 
     -- by the part of the events up to the answer
-    ends_at : (later past : List AddressEvent) (talk : List Placed) (assigned : Assigned) → AnsweredBy wanted assigned talk → record_at start past ≡ entries talk → GoOn (rounds (moments talk)) (rounds (moments places)) → Client (later ++ past) → entries places ≡ record_at start (later ++ past)
+    ends_at : (later past : List AddressEvent) (talk : List Placed) (assigned : Assigned) → AnsweredBy wanted assigned Exact talk → record_at start past ≡ entries talk → GoOn (rounds (moments talk)) (rounds (moments places)) → Client (later ++ past) → entries places ≡ record_at start (later ++ past)
         → EndsWith wanted (map shown start.units) (map shown (replay start (later ++ past)).units) assigned
     ends_at later past talk assigned a at on c is =
         let e : Ended wanted start.units (replay start past).units assigned = ended past talk assigned (client_before later past c) at a in
         record { determined = e.determined; left = left_so later past talk assigned c is on a.gives e }
 
-    answers_so : (events : List AddressEvent) (assigned : Assigned) → Answered wanted assigned places → Client events → entries places ≡ record_at start events → EndsWith wanted (map shown start.units) (map shown (replay start events).units) assigned
+    answers_so : (events : List AddressEvent) (assigned : Assigned) → Answered wanted assigned Exact places → Client events → entries places ≡ record_at start events → EndsWith wanted (map shown start.units) (map shown (replay start events).units) assigned
     answers_so events assigned h c is =
         let p : Part start events (entries h.talk) = part_of start events h.closes.added h.talk (sym is ∙ ap entries h.closes.all) in
         let P : List AddressEvent → Type 0 = λ es. Client es → entries places ≡ record_at start es → EndsWith wanted (map shown start.units) (map shown (replay start es).units) assigned in
@@ -240,26 +240,26 @@ module _ (wanted : IndAddr) (start : AddressWorld) where
     refused_not events three c is paces n h =
         no_three three n (sym h ∙ (ap tries is ∙ none_tried events c (subst KeepsPaces is paces)))
 
-    fails_so : (events : List AddressEvent) (fault : AssignFault) → HasThreeTries (Err fault) → Client events → entries places ≡ record_at start events → FailsRightly wanted fault places ⊎ FailsLate wanted fault places → FailsOutside fault
-    fails_so events TunnelLost three c is (inl h) = lost_not events c is h.paced.keeps h.paced.stays_open h.cause
+    fails_so : (events : List AddressEvent) (fault : AssignFault) → HasThreeTries (Err fault) → Client events → entries places ≡ record_at start events → FailsRightly wanted fault Exact places ⊎ FailsLate wanted fault Exact places → FailsOutside fault
+    fails_so events TunnelLost three c is (inl h) = lost_not events c is (h.paced refl).keeps h.stays_open h.cause
     fails_so events TunnelLost three c is (inr h) = absurd h.late
     fails_so events LinkFailed three c is h = tt
-    fails_so events (GatewayRefused tried) three c is (inl h) = refused_not events tried c is h.paced.keeps (three tried refl) h.cause
-    fails_so events (GatewayRefused tried) three c is (inr h) = refused_not events tried c is h.answered.keeps (three tried refl) h.cause
+    fails_so events (GatewayRefused tried) three c is (inl h) = refused_not events tried c is (h.paced refl).keeps (three tried refl) h.cause
+    fails_so events (GatewayRefused tried) three c is (inr h) = refused_not events tried c is (h.answered.keeps refl) (three tried refl) h.cause
     fails_so events Flooded three c is h = tt
     fails_so events (NoMemory want) three c is h = tt
 
-  by_came : (events : List AddressEvent) (places : List Placed) (came : Result Assigned AssignFault) → HasThreeTries came → Client events → entries places ≡ record_at start events → TalksRightly wanted places → EndsSo wanted came places
+  by_came : (events : List AddressEvent) (places : List Placed) (came : Result Assigned AssignFault) → HasThreeTries came → Client events → entries places ≡ record_at start events → TalksRightly wanted places → EndsSo wanted came Exact places
       → IsDetermined wanted (map shown start.units) (map shown (replay start events).units) came
   by_came events places (Ok assigned) three c is rightly h = answers_so places rightly events assigned h c is
   by_came events places (Err fault) three c is rightly h = fails_so places rightly events fault three c is h
 
   pub law : (events : List AddressEvent) (came : Result Assigned AssignFault) → HasThreeTries came → IsFresh start → IsLegal start events → AreCalm start events → RenewsRightly (record_of start events) → SendsRightly (record_of start events) → AcknowledgesRightly (record_of start events)
-      → EndsSo wanted came (counted (record_of start events)) → IsDetermined wanted (map shown start.units) (map shown (replay start events).units) came
+      → EndsSo wanted came Exact (counted (record_of start events)) → IsDetermined wanted (map shown start.units) (map shown (replay start events).units) came
   law events came three f l c renews sends acknowledges h =
       let places : List Placed = counted (record_of start events) in
       let same : entries places ≡ record_at start events = entries_counted (record_of start events) ∙ sym (records start events) in
-      let rightly : TalksRightly wanted places = ends_rightly wanted came places h in
+      let rightly : TalksRightly wanted places = ends_rightly wanted came Exact places h in
       let back : record_of start events ≡ record_at start events = sym (records start events) in
       let client : Client events
       = record {

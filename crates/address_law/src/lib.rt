@@ -3,6 +3,7 @@
 
 ghost use Rattle.std.specs.Prelude.{List, map, Result};
 ghost use Rattle.knx_model.specs.declared.address.IndAddr.{IndAddr as Address};
+ghost use Rattle.line_model.specs.LinkStory.{Exact};
 ghost use Rattle.line_model.specs.Record.{counted};
 ghost use Rattle.line_model.specs.Renews.{AcknowledgesRightly, RenewsRightly};
 ghost use Rattle.line_model.specs.Sendings.{SendsRightly};
@@ -20,6 +21,6 @@ ghost use Rattle.address_law.specs.Determined.{IsDetermined};
 /// the end just the unit that is to have the wanted address has got it. The channel isn't lost, and no try to get one fails.
 pub fn the_units_determine_what_comes_of_it()
     ensures { (wanted : Address) (start : AddressWorld) (events : List AddressEvent) (came : Result Answer Fault) → HasThreeTries came → IsFresh start → IsLegal start events → AreCalm start events
-        → RenewsRightly (record_of start events) → SendsRightly (record_of start events) → AcknowledgesRightly (record_of start events) → EndsSo wanted came (counted (record_of start events))
+        → RenewsRightly (record_of start events) → SendsRightly (record_of start events) → AcknowledgesRightly (record_of start events) → EndsSo wanted came Exact (counted (record_of start events))
         → IsDetermined wanted (map shown start.units) (map shown (replay start events).units) came }
 {}

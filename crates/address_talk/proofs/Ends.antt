@@ -1,6 +1,7 @@
 -- Each request that was put is one of the four, and all of them were put rightly.
 use Rattle.std.proofs.Common.{◌≡◌, List, [], ◌∷◌, Some, Result, Ok, Err, sym, ◌∙◌, inl, inr}
 use Rattle.knx_model.specs.declared.address.IndAddr.{IndAddr}
+use Rattle.line_model.specs.LinkStory.{Clock}
 use Rattle.line_model.specs.Record.{Placed, entries}
 use Rattle.line_model.specs.ClientView.{Deed, Puts, Takes, Loses, Nothing, channel, deed}
 use Rattle.address_world.specs.Keeps.{AsksFirst, AllAskFirst}
@@ -23,7 +24,7 @@ all_first wanted (p ∷ older) h = (first_by wanted older (deed (channel (entrie
 
 -- ---- how it ends
 
-pub ends_rightly : (wanted : IndAddr) (result : Result Assigned AssignFault) (places : List Placed) → EndsSo wanted result places → TalksRightly wanted places
-ends_rightly wanted (Ok assigned) places h = h.rightly
-ends_rightly wanted (Err fault) places (inl h) = h.rightly
-ends_rightly wanted (Err fault) places (inr h) = h.answered.rightly
+pub ends_rightly : (wanted : IndAddr) (result : Result Assigned AssignFault) (clock : Clock) (places : List Placed) → EndsSo wanted result clock places → TalksRightly wanted places
+ends_rightly wanted (Ok assigned) clock places h = h.rightly
+ends_rightly wanted (Err fault) clock places (inl h) = h.rightly
+ends_rightly wanted (Err fault) clock places (inr h) = h.answered.rightly

@@ -1,5 +1,5 @@
 -- How giving an address ends, by the link's record: what came of it is read off the talk, in which the channel wasn't lost and few datagrams came;
--- after that the channel is ended, and no request is put. A fault comes exactly at its cause.
+-- after that the channel is ended, and no request is put. A fault comes exactly at its cause. Where the link's clock is exact the pace is kept too.
 use Rattle.std.specs.Prelude.{◌≡◌, ◌⊎◌, ℕ, suc, ◌+◌, ◌≤◌, true, false, List, [], ◌∷◌, ◌++◌, length, reverse, if◌then◌else◌, Result, Ok, Err, ◌<◌}
 use Rattle.knx_model.specs.declared.address.IndAddr.{IndAddr}
 use Rattle.knx_model.specs.Outside.{Rose}
@@ -10,6 +10,7 @@ use Rattle.line_model.specs.ClientView.{channel}
 use Rattle.line_model.specs.ChannelLost.{answer_wait}
 use Rattle.line_model.specs.Closing.{asks_to_end, most_datagrams}
 use Rattle.line_model.specs.Haste.{KeepsPaces}
+use Rattle.line_model.specs.Leaves.{StaysOpen}
 use Rattle.line_model.specs.Record.{Placed, entries, is_got}
 use Rattle.line_model.specs.Waiting.{longest_poll}
 use Rattle.line_model.specs.Moments.{moments}
@@ -17,35 +18,36 @@ use Rattle.line_model.specs.Faults.{datagrams_taken, flood, tries}
 use Rattle.address_talk.specs.Rounds.{rounds, has_lost, GoesOnFrom}
 use Rattle.address_talk.specs.Pace.{PacedUntil, Paced}
 use Rattle.address_talk.specs.Talk.{Gives, HeardOut, TalksRightly}
-use Rattle.line_model.specs.LinkStory.{newest_time}
+use Rattle.line_model.specs.LinkStory.{Clock, Exact, newest_time}
 use Rattle.tunnel_link.specs.Alone.{Each, EndsNone}
 use Rattle.address_talk.specs.declared.assigned.Assigned.{Assigned}
 use Rattle.address_talk.specs.declared.assigned.AssignFault.{AssignFault}
 use Rattle.address_talk.specs.declared.assigned.AssignFault.TheVariants.{TunnelLost, LinkFailed, GatewayRefused, Flooded, NoMemory}
 
--- it talked rightly, and there is no cause yet to give it up
-pub record Stands (wanted : IndAddr) (places : List Placed) : Type 0 where
+-- it talked rightly, the channel wasn't asked to end, and there is no cause yet to give it up
+pub record Stands (wanted : IndAddr) (clock : Clock) (places : List Placed) : Type 0 where
   pub rightly : TalksRightly wanted places
   pub kept : has_lost (moments places) ≡ false
   pub few : datagrams_taken (entries places) < flood
-  pub paced : Paced wanted places
+  pub stays_open : StaysOpen (entries places)
+  pub paced : clock ≡ Exact → Paced wanted places
 
 -- ---- what came of it
 
 -- of the places up to the answer, where the channel is open
-pub record AnsweredBy (wanted : IndAddr) (assigned : Assigned) (talk : List Placed) : Type 0 where
-  pub stands : Stands wanted talk
+pub record AnsweredBy (wanted : IndAddr) (assigned : Assigned) (clock : Clock) (talk : List Placed) : Type 0 where
+  pub stands : Stands wanted clock talk
   pub place : HasPlace (channel (entries talk))
   pub heard_out : HeardOut wanted (rounds (moments talk)) (entries talk)
   pub gives : Gives wanted (rounds (moments talk)) assigned
 
 -- and of those after it, in which no request is put
-pub record Answered (wanted : IndAddr) (assigned : Assigned) (places : List Placed) : Type 0 where
+pub record Answered (wanted : IndAddr) (assigned : Assigned) (clock : Clock) (places : List Placed) : Type 0 where
   pub talk : List Placed
-  pub answered : AnsweredBy wanted assigned talk
+  pub answered : AnsweredBy wanted assigned clock talk
   pub closes : GoesOnFrom talk places
   pub rightly : TalksRightly wanted places
-  pub keeps : KeepsPaces (entries places)
+  pub keeps : clock ≡ Exact → KeepsPaces (entries places)
 
 -- ---- the end of the channel
 
@@ -80,10 +82,10 @@ pub record LeavesOn (old new : List Placed) : Type 0 where
   pub ends : EndsOnce old added
   pub awaits : AwaitsResponse old added
 
--- after the answer
+-- after the answer, where the clock is exact
 pub record Leaves (wanted : IndAddr) (assigned : Assigned) (places : List Placed) : Type 0 where
   pub talk : List Placed
-  pub answered : AnsweredBy wanted assigned talk
+  pub answered : AnsweredBy wanted assigned Exact talk
   pub leaves : LeavesOn talk places
 
 -- ---- faults
@@ -96,10 +98,11 @@ FailsSo Flooded places = datagrams_taken (entries places) ≡ flood
 FailsSo (NoMemory want) places = Unit {0}
 
 -- before there was an answer
-pub record FailsRightly (wanted : IndAddr) (fault : AssignFault) (places : List Placed) : Type 0 where
+pub record FailsRightly (wanted : IndAddr) (fault : AssignFault) (clock : Clock) (places : List Placed) : Type 0 where
   pub cause : FailsSo fault places
   pub rightly : TalksRightly wanted places
-  pub paced : PacedUntil wanted places
+  pub stays_open : StaysOpen (entries places)
+  pub paced : clock ≡ Exact → PacedUntil wanted places
 
 -- after it, at the end of the channel: not for the loss of the channel, nor for a failing link, nor for a flood
 abbrev pub ComesLate : AssignFault → Type 0
@@ -109,15 +112,15 @@ ComesLate (GatewayRefused three) = Unit {0}
 ComesLate Flooded = ⊥
 ComesLate (NoMemory want) = Unit {0}
 
-pub record FailsLate (wanted : IndAddr) (fault : AssignFault) (places : List Placed) : Type 0 where
+pub record FailsLate (wanted : IndAddr) (fault : AssignFault) (clock : Clock) (places : List Placed) : Type 0 where
   pub cause : FailsSo fault places
   pub late : ComesLate fault
   pub assigned : Assigned
-  pub answered : Answered wanted assigned places
+  pub answered : Answered wanted assigned clock places
 
-abbrev pub EndsSo : IndAddr → Result Assigned AssignFault → List Placed → Type 0
-EndsSo wanted (Ok assigned) places = Answered wanted assigned places
-EndsSo wanted (Err fault) places = FailsRightly wanted fault places ⊎ FailsLate wanted fault places
+abbrev pub EndsSo : IndAddr → Result Assigned AssignFault → Clock → List Placed → Type 0
+EndsSo wanted (Ok assigned) clock places = Answered wanted assigned clock places
+EndsSo wanted (Err fault) clock places = FailsRightly wanted fault clock places ⊎ FailsLate wanted fault clock places
 
 -- refused connects are told of three tries
 abbrev pub HasThreeTries : Result Assigned AssignFault → Type 0

@@ -1,11 +1,9 @@
--- At which pace an address is given (this project's own), by the link's record. The channel is kept as it should be and, until there is an answer, isn't
--- asked to end. Time passes only where something is awaited: a channel, an acknowledgement, a confirmation, or the end of a listening.
+-- At which pace an address is given over a link whose clock is exact (this project's own), by its record. The channel is kept as it should be. Time passes only where something is awaited: a channel, an acknowledgement, a confirmation, or the end of a listening.
 use Rattle.std.specs.Prelude.{◌≡◌, ◌+◌, ◌<◌, ◌≤◌, true, false, List, [], ◌∷◌, ◌++◌}
 use Rattle.knx_model.specs.declared.address.IndAddr.{IndAddr}
 use Rattle.line_model.specs.Asks.{HasPlace}
 use Rattle.line_model.specs.ClientView.{channel}
 use Rattle.line_model.specs.Haste.{KeepsPaces}
-use Rattle.line_model.specs.Leaves.{StaysOpen}
 use Rattle.line_model.specs.LinkStory.{newest_time}
 use Rattle.line_model.specs.Moments.{moments}
 use Rattle.line_model.specs.Record.{Placed, entries, is_poll}
@@ -28,7 +26,6 @@ WaitsRightly wanted (p ∷ older) = WaitsSo wanted older p × WaitsRightly wante
 
 pub record Paced (wanted : IndAddr) (places : List Placed) : Type 0 where
   pub keeps : KeepsPaces (entries places)
-  pub stays_open : StaysOpen (entries places)
   pub waits : WaitsRightly wanted places
 
 -- the same of a talk that fails, but for its last poll
@@ -41,5 +38,4 @@ pub record WaitsUntil (wanted : IndAddr) (places : List Placed) : Type 0 where
 
 pub record PacedUntil (wanted : IndAddr) (places : List Placed) : Type 0 where
   pub keeps : KeepsPaces (entries places)
-  pub stays_open : StaysOpen (entries places)
   pub waits : WaitsUntil wanted places

@@ -5,7 +5,7 @@ use Rattle.address_talk.specs.Rounds.{rounds}
 use Rattle.line_model.specs.Moments.{moments}
 use Rattle.address_commission.proofs.Calls.{handed_on}
 use Rattle.address_commission.proofs.Asks.{asked_goes, listens_for, out_goes}
-use Rattle.address_commission.specs.Exact.{WhereExact}
+use Rattle.tunnel_link.specs.Rights.{WhereTold}
 use Rattle.address_commission.proofs.ask.ask.Goals as goal
 
 pub returns-in_err-put-clause-fails : goal.returns-in_err-put-clause-fails
@@ -22,11 +22,11 @@ pub returns-clause-out : goal.returns-clause-out
 returns-clause-out g c =
     out_goes c.args.wanted c.args.asked c.args.ear.now c.wait_out.new.ear _ _ c.wait_out.result
     (asked_goes c.args.wanted c.args.asked c.args.ear.now c.put.new.ear c.wait_out.new.ear _ _ _ c.wait_out.result c.in_ok-put.ensures.goes c.wait_out.ensures.goes)
-    (subst (λ n. OnOk c.wait_out.result (WhereExact (HasWaited n c.wait_out.new.ear) (g.L.Link.story c.wait_out.new.tunnel.link))) c.quiet_after.ensures c.wait_out.ensures.waited) c.requires.listens
+    (subst (λ n. OnOk c.wait_out.result (WhereTold (HasWaited n c.wait_out.new.ear) (g.L.Link.story c.wait_out.new.tunnel.link))) c.quiet_after.ensures c.wait_out.ensures.waited) c.requires.listens
 
 pub wait_out-requires-clause-for_it : goal.wait_out-requires-clause-for_it
 wait_out-requires-clause-for_it g c =
-    subst (λ n. WhereExact (λ places. ListensFor n (rounds (moments places))) (g.L.Link.story c.put.new.tunnel.link)) (sym c.quiet_after.ensures) (listens_for c.args.wanted c.args.asked _ _ (c.in_ok-put.ensures.goes.moves c.requires.listens))
+    subst (λ n. WhereTold (λ places. ListensFor n (rounds (moments places))) (g.L.Link.story c.put.new.tunnel.link)) (sym c.quiet_after.ensures) (listens_for c.args.wanted c.args.asked _ _ (c.in_ok-put.ensures.goes.moves c.requires.listens))
 
 pub returns-clause-puts : goal.returns-clause-puts
 returns-clause-puts g c = λ asks. c.wait_out.ensures.puts c.args.wanted (c.put.ensures.puts asks)

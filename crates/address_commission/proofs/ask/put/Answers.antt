@@ -1,6 +1,6 @@
 use Rattle.address_commission.proofs.Asking.{put_asks}
 use Rattle.address_commission.proofs.Asks.{put_told}
-use Rattle.address_commission.proofs.Closing.{ends_none_of}
+use Rattle.address_commission.proofs.Pacing.{ends_none_of}
 use Rattle.address_commission.proofs.ask.put.Goals as goal
 
 pub returns-clause-goes : goal.returns-clause-goes

@@ -7,7 +7,6 @@ use Rattle.address_commission.specs.Calls.{LeavesSince}
 use Rattle.address_commission.proofs.Asking.{asks_same, asks_then}
 use Rattle.address_commission.proofs.Closing.{closes_on, closes_same}
 use Rattle.address_commission.proofs.Leaving.{paces_then, paces_same, waited}
-use Rattle.address_commission.proofs.Exacts.{where_exact}
 use Rattle.address_commission.proofs.close.await_response.Goals as goal
 
 pub loop-init : goal.loop-init
@@ -51,12 +50,12 @@ returns-then-not-stays-clause-alone g c = both_each EndsNone _ _ _ c.loop.invari
 
 pub returns-then-left-eq0-clause-awaited : goal.returns-then-left-eq0-clause-awaited
 returns-then-left-eq0-clause-awaited g c = λ talk is l.
-    waited c.loop.left c.args.began c.now.result talk _ (where_exact _ _ c.now.ensures.newest) is
+    waited c.loop.left c.args.began c.now.result talk _ c.now.ensures.newest is
     (elim c.then-left-eq0.either [ inl none ↦ inl none | inr h ↦ inr (subst (λ n. 10000 ≤ n) c.saturating_sub-passed.ensures h.1) ]) (c.loop.invariant.awaits talk is l)
 
 pub returns-then-not-stays-clause-awaited : goal.returns-then-not-stays-clause-awaited
-returns-then-not-stays-clause-awaited g c = λ talk is l places p.
-    (c.in_ok-came.ensures.awaits c.loop.left talk c.now.result (where_exact _ _ c.now.ensures.newest) (omega (arith, is, c.saturating_sub-passed.ensures, c.if-passed-ge-LEAVING_MS.false)) (omega (arith, c.if-left-eq0.false)) (c.loop.invariant.awaits talk is l) places p).1
+returns-then-not-stays-clause-awaited g c = λ talk is l places p exact.
+    (c.in_ok-came.ensures.awaits c.loop.left talk c.now.result c.now.ensures.newest (omega (arith, is, c.saturating_sub-passed.ensures, c.if-passed-ge-LEAVING_MS.false)) (omega (arith, c.if-left-eq0.false)) (c.loop.invariant.awaits talk is l) places p exact).1
     (c.stays.ensures.lost c.if-not-stays.true)
 
 pub loop-preserved : goal.loop-preserved
@@ -65,9 +64,9 @@ loop-preserved g c = record {
   finite = tt;
   closes = λ wanted. closes_on wanted _ _ _ (c.loop.invariant.closes wanted) (c.waits.ensures.closes wanted);
   paces = paces_then _ _ _ c.loop.invariant.paces c.waits.ensures.paces;
-  awaits = λ talk is l places p.
+  awaits = λ talk is l places p exact.
       subst (λ n. LeavesSince n talk places) (sym (c.saturating_sub-left.ensures ∙ ap (λ k. c.loop.left - k) c.got_one.ensures))
-      ((c.in_ok-came.ensures.awaits c.loop.left talk c.now.result (where_exact _ _ c.now.ensures.newest) (omega (arith, is, c.saturating_sub-passed.ensures, c.if-passed-ge-LEAVING_MS.false)) (omega (arith, c.if-left-eq0.false)) (c.loop.invariant.awaits talk is l) places p).0
+      ((c.in_ok-came.ensures.awaits c.loop.left talk c.now.result c.now.ensures.newest (omega (arith, is, c.saturating_sub-passed.ensures, c.if-passed-ge-LEAVING_MS.false)) (omega (arith, c.if-left-eq0.false)) (c.loop.invariant.awaits talk is l) places p exact).0
       (c.stays.ensures.stays c.if-not-stays.false));
   puts = asks_then _ _ _ c.loop.invariant.puts c.waits.ensures.puts;
   stands = c.in_ok-came.ensures.stands;

@@ -5,7 +5,8 @@ use Rattle.tunnel_link.proofs.Alone.{both_each}
 use Rattle.tunnel_link.proofs.Stories.{goes_again}
 use Rattle.address_commission.proofs.Asking.{act_asks, asks_then, poll_asks}
 use Rattle.address_commission.proofs.Calls.{told_ok}
-use Rattle.address_commission.proofs.Closing.{act_closes, closes_on, ends_none_of, poll_closes}
+use Rattle.address_commission.proofs.Closing.{act_closes, closes_on, poll_closes}
+use Rattle.address_commission.proofs.Pacing.{ends_none_of}
 use Rattle.address_commission.proofs.Leaving.{alone_kept, paces_then, poll_kept, told_causes, told_left}
 use Rattle.address_commission.proofs.close.waits.Goals as goal
 

@@ -3,33 +3,32 @@ use Rattle.address_talk.specs.Ends.{EndsSo}
 use Rattle.address_commission.proofs.Asking.{new_asks}
 use Rattle.address_commission.proofs.Calls.{handed_on}
 use Rattle.address_commission.proofs.Closing.{answered_at, closing_fails, left_so, rose_from}
-use Rattle.address_commission.proofs.Exacts.{where_exact}
 use Rattle.address_commission.proofs.Ends.{fails_before, new_listens, open_begins}
-use Rattle.address_commission.specs.Exact.{WhereExact}
+use Rattle.address_commission.specs.Exact.{WhereClock}
 use Rattle.address_commission.proofs.giving.talk.Goals as goal
 
 pub returns-in_err-open-clause-ends : goal.returns-in_err-open-clause-ends
 returns-in_err-open-clause-ends g c =
-    subst (λ r. WhereExact (EndsSo c.args.wanted r) (g.L.Link.story c.open.new.tunnel.link)) (sym (handed_on c.from_residual.result _ c.from_residual.ensures))
+    subst (λ r. WhereClock (EndsSo c.args.wanted r) (g.L.Link.story c.open.new.tunnel.link)) (sym (handed_on c.from_residual.result _ c.from_residual.ensures))
     (fails_before c.args.wanted _ _ (c.in_err-open.ensures.goes.fails c.args.wanted (new_listens c.args.wanted c.new-ear.result _ c.new-ear.ensures c.requires.new)))
 
 pub give-requires-clause-begins : goal.give-requires-clause-begins
 give-requires-clause-begins g c =
-    open_begins _ _ c.requires.new (c.in_ok-open.ensures.goes.moves c.args.wanted (new_listens c.args.wanted c.new-ear.result _ c.new-ear.ensures c.requires.new)) (where_exact _ _ c.in_ok-open.ensures.free)
+    open_begins _ _ c.requires.new (c.in_ok-open.ensures.goes.moves c.args.wanted (new_listens c.args.wanted c.new-ear.result _ c.new-ear.ensures c.requires.new)) c.in_ok-open.ensures.free
 
 pub give-requires-clause-listens : goal.give-requires-clause-listens
 give-requires-clause-listens g c = c.in_ok-open.ensures.goes.listens c.args.wanted (new_listens c.args.wanted c.new-ear.result _ c.new-ear.ensures c.requires.new)
 
 pub returns-in_err-assigned-clause-ends : goal.returns-in_err-assigned-clause-ends
 returns-in_err-assigned-clause-ends g c =
-    subst (λ r. WhereExact (EndsSo c.args.wanted r) (g.L.Link.story c.give.new.tunnel.link)) (sym (handed_on c.from_residual-in_err-assigned.result _ c.from_residual-in_err-assigned.ensures)) (fails_before c.args.wanted _ _ c.in_err-assigned.ensures.fails)
+    subst (λ r. WhereClock (EndsSo c.args.wanted r) (g.L.Link.story c.give.new.tunnel.link)) (sym (handed_on c.from_residual-in_err-assigned.result _ c.from_residual-in_err-assigned.ensures)) (fails_before c.args.wanted _ _ c.in_err-assigned.ensures.fails)
 
 pub returns-clause-ends : goal.returns-clause-ends
 returns-clause-ends g c = answered_at c.args.wanted c.in_ok-assigned.assigned _ _ c.in_ok-assigned.ensures.gives (c.close.ensures.closes c.args.wanted) c.close.ensures.paces
 
 pub returns-in_err-close-clause-ends : goal.returns-in_err-close-clause-ends
 returns-in_err-close-clause-ends g c =
-    subst (λ r. WhereExact (EndsSo c.args.wanted r) (g.L.Link.story c.close.new.tunnel.link)) (sym (handed_on c.from_residual-in_err-close.result _ c.from_residual-in_err-close.ensures))
+    subst (λ r. WhereClock (EndsSo c.args.wanted r) (g.L.Link.story c.close.new.tunnel.link)) (sym (handed_on c.from_residual-in_err-close.result _ c.from_residual-in_err-close.ensures))
     (closing_fails c.args.wanted c.in_ok-assigned.assigned _ _ _ c.in_ok-assigned.ensures.gives (c.in_err-close.ensures.closes c.args.wanted) c.in_err-close.ensures.paces c.in_err-close.ensures.fails c.in_err-close.ensures.late)
 
 pub returns-clause-leaves : goal.returns-clause-leaves
@@ -40,7 +39,7 @@ pub close-requires-clause-kept : goal.close-requires-clause-kept
 close-requires-clause-kept g c places p = (c.in_ok-assigned.ensures.gives places p).stands.kept
 
 pub close-requires-clause-stays : goal.close-requires-clause-stays
-close-requires-clause-stays g c places p = (c.in_ok-assigned.ensures.gives places p).stands.paced.stays_open
+close-requires-clause-stays g c places p = (c.in_ok-assigned.ensures.gives places p).stands.stays_open
 
 pub returns-in_err-open-clause-puts : goal.returns-in_err-open-clause-puts
 returns-in_err-open-clause-puts g c = c.open.ensures.puts c.args.wanted (new_asks c.args.wanted _ c.requires.new)

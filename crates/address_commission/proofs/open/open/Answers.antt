@@ -4,7 +4,6 @@ use Rattle.address_commission.specs.Calls.{TalkGoes}
 use Rattle.address_talk.specs.Rounds.{SameRounds}
 use Rattle.address_commission.proofs.Asking.{asks_then}
 use Rattle.address_commission.proofs.Calls.{handed_on, goes_then, none_awaited}
-use Rattle.address_commission.proofs.Exacts.{told_too}
 use Rattle.address_commission.proofs.Pacing.{not_both}
 use Rattle.address_commission.proofs.open.open.Goals as goal
 
@@ -40,7 +39,7 @@ loop-preserved g c = record {
 
 pub poll-requires-clause-awaits : goal.poll-requires-clause-awaits
 poll-requires-clause-awaits g c = λ wanted listens.
-    none_awaited _ (λ places p place. not_both c.has_place.result ((c.has_place.ensures.told c.in_ok-seek.ensures.stands places (told_too _ places p)).1 place) c.if-has_place.false) wanted _
+    none_awaited _ (λ places p place. not_both c.has_place.result ((c.has_place.ensures.told c.in_ok-seek.ensures.stands places p).1 place) c.if-has_place.false) wanted _
 
 pub returns-then-has_place-clause-goes : goal.returns-then-has_place-clause-goes
 returns-then-has_place-clause-goes g c =

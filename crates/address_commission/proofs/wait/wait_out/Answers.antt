@@ -5,7 +5,6 @@ use Rattle.address_talk.specs.Rounds.{SameRounds}
 use Rattle.address_commission.proofs.Asking.{asks_then}
 use Rattle.address_commission.proofs.Asks.{awaits_for, still_listens_for}
 use Rattle.address_commission.proofs.Calls.{goes_then, handed_on}
-use Rattle.address_commission.proofs.Exacts.{where_exact}
 use Rattle.address_commission.proofs.wait.wait_out.Goals as goal
 
 pub returns-in_err-act-clause-goes : goal.returns-in_err-act-clause-goes
@@ -18,7 +17,7 @@ returns-then-has_waited-clause-goes g c = goes_then tt c.args.ear.now c.loop.ear
 
 pub poll-requires-clause-awaits : goal.poll-requires-clause-awaits
 poll-requires-clause-awaits g c =
-    awaits_for c.args.quiet_ms c.rest-longest_ms.result c.now.result c.loop.ear _ (still_listens_for c.args.quiet_ms _ _ c.act.ensures.same c.loop.invariant.for_it) (where_exact _ _ c.now.ensures.newest) (c.has_waited.ensures.waits c.if-has_waited.false) c.rest-longest_ms.ensures.listens
+    awaits_for c.args.quiet_ms c.rest-longest_ms.result c.now.result c.loop.ear _ (still_listens_for c.args.quiet_ms _ _ c.act.ensures.same c.loop.invariant.for_it) c.now.ensures.newest (c.has_waited.ensures.waits c.if-has_waited.false) c.rest-longest_ms.ensures.listens
 
 pub returns-in_err-poll-clause-goes : goal.returns-in_err-poll-clause-goes
 returns-in_err-poll-clause-goes g c =

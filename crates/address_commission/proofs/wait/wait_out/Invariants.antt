@@ -5,7 +5,7 @@ use Rattle.address_talk.specs.Rounds.{SameRounds, rounds}
 use Rattle.address_commission.specs.Listening.{ListensFor}
 use Rattle.line_model.specs.Polled.{NeverFall}
 use Rattle.line_model.specs.Moments.{moments}
-use Rattle.address_commission.specs.Exact.{WhereExact}
+use Rattle.tunnel_link.specs.Rights.{WhereTold}
 use Rattle.address_commission.proofs.wait.wait_out.Given as goal
 
 -- the talk goes on, and no request is put
@@ -14,7 +14,7 @@ invariant-loop g l = record {
   next : (goal.iterator-loop g).can_next l.iterator';
   finite : (goal.iterator-loop g).is_finite l.iterator';
   goes : TalkGoes {X = Unit {0}} SameRounds l.fn.ear l.ear (g.L.Link.story l.fn.tunnel.link) (g.L.Link.story l.tunnel.link) (Ok tt);
-  for_it : WhereExact (λ places. ListensFor l.fn.quiet_ms (rounds (moments places))) (g.L.Link.story l.tunnel.link);
+  for_it : WhereTold (λ places. ListensFor l.fn.quiet_ms (rounds (moments places))) (g.L.Link.story l.tunnel.link);
   puts : AsksNoOther (g.L.Link.story l.fn.tunnel.link) (g.L.Link.story l.tunnel.link);
   stands : l.tunnel.known.fault ≡ None;
   count : NeverFall (g.L.Link.faults l.fn.tunnel.link) (g.L.Link.faults l.tunnel.link);
