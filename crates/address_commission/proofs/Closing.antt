@@ -13,7 +13,7 @@ use Rattle.line_model.specs.Asks.{HasPlace}
 use Rattle.line_model.specs.Closing.{asks_to_end, is_open}
 use Rattle.line_model.specs.Haste.{KeepsPaces}
 use Rattle.line_model.specs.Record.{Placed, entries}
-use Rattle.line_model.specs.LinkStory.{Story, Clock, newest_time, places_in}
+use Rattle.line_model.specs.LinkStory.{Story, newest_time, places_in}
 use Rattle.line_model.specs.ClientView.{ClientChannel, Fresh, Sought, RefusedBy, Unanswered, Open, Lost, Deed, Puts, Takes, Loses, Nothing as DoesNothing, channel}
 use Rattle.line_model.specs.Moments.{Moment, moments}
 use Rattle.line_model.specs.Signs.{Every}
@@ -35,15 +35,15 @@ use Rattle.address_talk.specs.declared.assigned.AssignFault.TheVariants as fails
 use Rattle.address_talk.specs.Rounds.{Round, after_deed, rounds, has_lost, GoOn, SameRounds}
 use Rattle.address_talk.specs.Talk.{TalksRightly}
 use Rattle.address_commission.specs.Going.{Going, GoingExact}
-use Rattle.address_talk.specs.Ends.{Answered, AnsweredBy, ComesLate, EndsOnce, EndsSo, FailsBy, FailsSo, Leaves as LeavesAnswered, LeavesOn}
-use Rattle.address_commission.specs.Calls.{ClosesSo, HasAwaited, LeavesSince, PaceKept, ToldAs, fault_of}
+use Rattle.address_talk.specs.Ends.{Answered, AnsweredBy, ComesLate, EndsOnce, EndsSo, FailsBy, FailsSo, Leaves as LeavesAnswered}
+use Rattle.address_commission.specs.Calls.{ClosesSo, HasAwaited, LeavesSince, PaceKept, ToldAs, fault_of, LeavesTo}
 use Rattle.std.specs.Prelude.{IfErr, OnOk}
 use Rattle.address_commission.proofs.Leaving.{awaits_after, request_left}
 use Rattle.address_commission.proofs.Calls.{before}
 use Rattle.address_commission.proofs.Folds.{nothing_rounds, one_rounds, NotPuts, PutsNo, nothing_puts, one_puts, not_puts, talks_on}
 use Rattle.address_commission.proofs.Heard.{go_same, go_on, go_frame}
 use Rattle.address_commission.proofs.Steps.{Step, step_of, told_before, some_is}
-use Rattle.address_commission.specs.Exact.{WhereClock, WhereExact}
+use Rattle.address_commission.specs.Exact.{WhereClock}
 
 go_deed : (d : Deed) (rs : List Round) → NotPuts d → GoOn rs (after_deed d rs)
 go_deed (Puts cemi) rs h = absurd h
@@ -192,12 +192,12 @@ ends_by false s t u g h leaves once none place new p = let b = told_before s u n
 
 module _ (call : Result Bool HubFault) (began : ℕ) (s t u : Story) (g : GoesOn s t) (h : GoesOn t u) (leaves : Growing (Leaves call) s t) (once : Growing SendsOnce s t) (time : Growing (Each TakesNoTime) s t) (none : Growing (Each EndsNone) t u)
     (place : WhereTold (λ places. HasPlace (channel (entries places))) s) (kept : WhereTold (λ places. has_lost (moments places) ≡ false) s) (now : WhereTold (λ places. began ≡ newest_time (entries places)) s) where
-  leaves_on : (asked : Bool) → call ≡ Ok asked → ((talk : List Placed) → newest_time (entries talk) ≡ began → WhereExact (LeavesSince 64 talk) t → WhereExact (HasAwaited talk) u) → GoingExact LeavesOn s u
-  leaves_on asked is awaited new p exact =
+  leaves_on : (asked : Bool) → call ≡ Ok asked → ((talk : List Placed) → newest_time (entries talk) ≡ began → WhereClock (LeavesSince 64 talk) t → WhereClock (HasAwaited talk) u) → LeavesTo s u
+  leaves_on asked is awaited new p =
       let b = told_before s u new (goes_again s t u g h) p in
-      awaits_after s u b.0 b.1 (awaited b.0 (sym (now b.0 b.1)) (request_left call b.0 s t g leaves once time b.1 kept)) new p exact (ends_by asked s t u g h (subst (λ (r : Result Bool HubFault). Growing (Leaves r) s t) is leaves) once none place new p)
+      awaits_after s u b.0 b.1 (awaited b.0 (sym (now b.0 b.1)) (request_left call b.0 s t g leaves once time b.1 kept)) new p (ends_by asked s t u g h (subst (λ (r : Result Bool HubFault). Growing (Leaves r) s t) is leaves) once none place new p)
 
-  pub leaves_so : {X : Type 0} (asked : Bool) → call ≡ Ok asked → (result : Result X AssignFault) → OnOk result ((talk : List Placed) → newest_time (entries talk) ≡ began → WhereExact (LeavesSince 64 talk) t → WhereExact (HasAwaited talk) u) → OnOk result (GoingExact LeavesOn s u)
+  pub leaves_so : {X : Type 0} (asked : Bool) → call ≡ Ok asked → (result : Result X AssignFault) → OnOk result ((talk : List Placed) → newest_time (entries talk) ≡ began → WhereClock (LeavesSince 64 talk) t → WhereClock (HasAwaited talk) u) → OnOk result (LeavesTo s u)
   leaves_so asked is (Ok x) awaited = leaves_on asked is awaited
   leaves_so asked is (Err why) awaited = tt
 
@@ -253,5 +253,5 @@ answered_at wanted assigned s t a c k new p =
 pub closing_fails : (wanted : IndAddr) (assigned : Assigned) (why : AssignFault) (s t : Story) → WhereClock (AnsweredBy wanted assigned) s → Going (ClosesSo wanted) s t → GoingExact PaceKept s t → WhereTold (FailsSo why) t → ComesLate why → WhereClock (EndsSo wanted (Err why)) t
 closing_fails wanted assigned why s t a c k f late new p = inr (record { cause = f new p; late = late; assigned = assigned; answered = answered_at wanted assigned s t a c k new p })
 
-pub left_so : (wanted : IndAddr) (assigned : Assigned) (s t : Story) → WhereClock (AnsweredBy wanted assigned) s → GoingExact LeavesOn s t → WhereExact (LeavesAnswered wanted assigned) t
-left_so wanted assigned s t a l new p exact = let x = l new p exact in record { talk = x.old; answered = subst (λ (c : Clock). AnsweredBy wanted assigned c x.old) (sym x.clock ∙ exact) (a x.old x.told); leaves = x.is }
+pub left_so : (wanted : IndAddr) (assigned : Assigned) (s t : Story) → WhereClock (AnsweredBy wanted assigned) s → LeavesTo s t → WhereClock (LeavesAnswered wanted assigned) t
+left_so wanted assigned s t a l new p = let x = l new p in record { talk = x.old; answered = before (AnsweredBy wanted assigned) s t x.old x.clock a x.told; leaves = x.is }

@@ -32,7 +32,7 @@ use Rattle.address_commission.specs.Calls.{CausedBy, HasAwaited, LeavesSince, Le
 use Rattle.address_commission.proofs.Folds.{NoGot, nothing_lost, one_lost, sends_no_got, quiet_no_got}
 use Rattle.address_commission.proofs.Pacing.{also, not_both, alone_paces, poll_paces, newest_within}
 use Rattle.address_commission.proofs.Steps.{Step, step_of, some_is}
-use Rattle.address_commission.specs.Exact.{WhereExact}
+use Rattle.address_commission.specs.Exact.{WhereClock}
 
 -- ---- the channel is lost or stays
 
@@ -111,12 +111,11 @@ timeless_time : (added old : List Placed) → Each TakesNoTime old added → new
 timeless_time [] old t = refl
 timeless_time (p ∷ added) old t = t.0.still ∙ timeless_time added old t.1
 
-pub acts_left : (acted : Bool) (left : ℕ) (talk : List Placed) (s t : Story) → GoesOn s t → Growing (Acts (Ok acted)) s t → Growing (Each TakesNoTime) s t → WhereExact (LeavesSince left talk) s → WhereExact (LeavesSince left talk) t
-acts_left acted left talk s t g h time l new p exact =
+pub acts_left : (acted : Bool) (left : ℕ) (talk : List Placed) (s t : Story) → GoesOn s t → Growing (Acts (Ok acted)) s t → Growing (Each TakesNoTime) s t → WhereClock (LeavesSince left talk) s → WhereClock (LeavesSince left talk) t
+acts_left acted left talk s t g h time l new p =
     let x = step_of (Acts (Ok acted)) s t new g h p in
-    let was = l x.old x.told (sym x.clock ∙ exact) in
+    let was = l x.old x.told in
     let still : newest_time (entries new) ≡ newest_time (entries x.old) = ap (λ z. newest_time (entries z)) x.grow ∙ timeless_time x.added x.old (also (Acts (Ok acted)) (Each TakesNoTime) s t new x time p) in
-    let le = was.in_time in
     let c = was.count in
     let b = both_in x.added was.added in
     let n : datagrams_in x.added ≡ 0 = none_in x.added (sends_no_got x.added x.is.1.only_sends) in
@@ -124,7 +123,7 @@ acts_left acted left talk s t g h time l new p exact =
       added = x.added ++ was.added;
       all = x.grow ∙ ap (λ z. x.added ++ z) was.all ∙ sym (append_assoc x.added was.added talk);
       kept = ap has_lost x.moments_grow ∙ nothing_lost (moments_on x.old x.added) (moments x.old) x.is.0 ∙ was.kept;
-      in_time = omega (arith, still, le);
+      in_time = λ exact. let le = was.in_time (sym x.clock ∙ exact) in omega (arith, still, le);
       count = omega (arith, c, b, n);
     }
 
@@ -136,21 +135,20 @@ acts_time acted now s t g h time l new p =
 -- ---- a poll
 
 pub poll_left : (polled : Came) (longest left now : ℕ) (talk : List Placed) (s t : Story) → GoesOn s t → Growing (PollAdds (Ok polled)) s t → Growing (PollsWithin (clock_of s) longest) s t → WhereTold (λ places. now ≡ newest_time (entries places)) s → now + longest ≤ newest_time (entries talk) + answer_wait → 1 ≤ left
-    → WhereExact (LeavesSince left talk) s → WhereExact (LeftOn polled left talk) t
-poll_left polled longest left now talk s t g h within time until some l new p exact =
+    → WhereClock (LeavesSince left talk) s → WhereClock (LeftOn polled left talk) t
+poll_left polled longest left now talk s t g h within time until some l new p =
     let x = step_of (PollAdds (Ok polled)) s t new g h p in
-    let was = l x.old x.told (sym x.clock ∙ exact) in
+    let was = l x.old x.told in
     let w = also (PollAdds (Ok polled)) (PollsWithin (clock_of s) longest) s t new x within p in
     let at : now ≡ newest_time (entries x.old) = time x.old x.told in
     let bound : ℕ = newest_time (entries x.old) + min longest longest_poll in
-    let there : newest_time (entries (x.added ++ x.old)) ≤ bound = newest_within bound x.added x.old (omega arith) (w.in_time (sym x.clock ∙ exact)) in
-    let le : newest_time (entries new) ≤ bound = subst (λ z. newest_time (entries z) ≤ bound) (sym x.grow) there in
+    let le : clock_of t ≡ Exact → newest_time (entries new) ≤ bound = λ exact. subst (λ z. newest_time (entries z) ≤ bound) (sym x.grow) (newest_within bound x.added x.old (omega arith) (w.in_time (sym x.clock ∙ exact))) in
     let c = was.count in
     let b = both_in x.added was.added in
     let n : datagrams_in x.added ≡ got_one polled.what = poll_in polled x.old x.added x.is in
     let f : got_one polled.what ≤ 1 = few_one polled.what in
     let all : new ≡ (x.added ++ was.added) ++ talk = x.grow ∙ ap (λ z. x.added ++ z) was.all ∙ sym (append_assoc x.added was.added talk) in
-    let in_time : newest_time (entries new) ≤ newest_time (entries talk) + answer_wait = omega (arith, le, at, until) in (
+    let in_time : clock_of t ≡ Exact → newest_time (entries new) ≤ newest_time (entries talk) + answer_wait = λ exact. let most = le exact in omega (arith, most, at, until) in (
       (λ stays. record {
         added = x.added ++ was.added;
         all = all;
@@ -163,38 +161,39 @@ poll_left polled longest left now talk s t g h within time until some l new p ex
         all = all;
         awaits = record {
           over = inl (ap (λ z. has_lost (moments z)) (sym all) ∙ (ap has_lost x.moments_grow ∙ does_lost polled.what polled.loss _ (moments_on x.old x.added) (moments x.old) x.is.does lost));
-          in_time = subst (λ z. newest_time (entries z) ≤ newest_time (entries talk) + answer_wait) all in_time;
+          in_time = λ exact. subst (λ z. newest_time (entries z) ≤ newest_time (entries talk) + answer_wait) all (in_time exact);
           few = omega (arith, c, b, n, f, some);
           last = x.added;
           older = was.added;
           parts = refl;
           kept = subst (λ z. has_lost (moments z) ≡ false) was.all was.kept;
-          short = subst (λ z. newest_time (entries z) ≤ newest_time (entries (was.added ++ talk)) + longest_poll) all (subst (λ z. newest_time (entries new) ≤ newest_time (entries z) + longest_poll) was.all (omega (arith, le)));
+          short = λ exact.
+              let most = le exact in
+              subst (λ z. newest_time (entries z) ≤ newest_time (entries (was.added ++ talk)) + longest_poll) all (subst (λ z. newest_time (entries new) ≤ newest_time (entries z) + longest_poll) was.all (omega (arith, most)));
         };
       }),
     )
 
 -- ---- enough was waited
 
-pub waited : (left began now : ℕ) (talk : List Placed) (s : Story) → WhereTold (λ places. now ≡ newest_time (entries places)) s → newest_time (entries talk) ≡ began → (left ≡ 0) ⊎ (10000 ≤ now - began) → WhereExact (LeavesSince left talk) s → WhereExact (HasAwaited talk) s
-waited left began now talk s time is enough l places p exact =
-    let was = l places p exact in
+pub waited : (left began now : ℕ) (talk : List Placed) (s : Story) → WhereTold (λ places. now ≡ newest_time (entries places)) s → newest_time (entries talk) ≡ began → (left ≡ 0) ⊎ (10000 ≤ now - began) → WhereClock (LeavesSince left talk) s → WhereClock (HasAwaited talk) s
+waited left began now talk s time is enough l places p =
+    let was = l places p in
     let at : now ≡ newest_time (entries places) = time places p in
-    let le = was.in_time in
     let c = was.count in
     let same : newest_time (entries places) ≡ newest_time (entries (was.added ++ talk)) = ap (λ z. newest_time (entries z)) was.all in
     record {
       added = was.added;
       all = was.all;
       awaits = record {
-        over = inr (elim enough [ inl none ↦ inr (omega (arith, c, none)) | inr passed ↦ inl (omega (arith, at, is, le, same, passed)) ]);
-        in_time = omega (arith, le, same);
+        over = inr (elim enough [ inl none ↦ inr (omega (arith, c, none)) | inr passed ↦ inl (omega (arith, at, is, same, passed)) ]);
+        in_time = λ exact. let le = was.in_time exact in omega (arith, le, same);
         few = omega (arith, c);
         last = [];
         older = was.added;
         parts = refl;
         kept = subst (λ z. has_lost (moments z) ≡ false) was.all was.kept;
-        short = omega arith;
+        short = λ exact. omega arith;
       };
     }
 
@@ -217,8 +216,8 @@ once_no_got old _ (Once p still seeks) t = none_in (p ∷ []) (by_item p.what.wh
   by_item (Got octets) h = absurd (cc)
   by_item Quiet h = refl
 
-pub request_left : (call : Result Bool HubFault) (talk : List Placed) (s t : Story) → GoesOn s t → Growing (Leaves call) s t → Growing SendsOnce s t → Growing (Each TakesNoTime) s t → places_in s ≡ Some talk → WhereTold (λ places. has_lost (moments places) ≡ false) s → WhereExact (LeavesSince 64 talk) t
-request_left call talk s t g h once time told kept new p exact =
+pub request_left : (call : Result Bool HubFault) (talk : List Placed) (s t : Story) → GoesOn s t → Growing (Leaves call) s t → Growing SendsOnce s t → Growing (Each TakesNoTime) s t → places_in s ≡ Some talk → WhereTold (λ places. has_lost (moments places) ≡ false) s → WhereClock (LeavesSince 64 talk) t
+request_left call talk s t g h once time told kept new p =
     let x = step_of (Leaves call) s t new g h p in
     let same : x.old ≡ talk = some_is x.old talk (sym x.told ∙ told) in
     let still = timeless_time x.added x.old (also (Leaves call) (Each TakesNoTime) s t new x time p) in
@@ -228,7 +227,7 @@ request_left call talk s t g h once time told kept new p exact =
       added = x.added;
       all = x.grow ∙ ap (λ z. x.added ++ z) same;
       kept = ap has_lost x.moments_grow ∙ nothing_lost (moments_on x.old x.added) (moments x.old) x.is.nothing ∙ kept x.old x.told;
-      in_time = omega (arith, now);
+      in_time = λ exact. omega (arith, now);
       count = omega (arith, none);
     }
 
@@ -299,24 +298,24 @@ told_causes (Err why) t h = h
 -- ---- a poll, by what was told of it
 
 pub told_left : (call : Result Came HubFault) (result : Result Came AssignFault) → ToldAs call result → (acted : Bool) (longest : ℕ) (s t u : Story) → GoesOn s t → Growing (Acts (Ok acted)) s t → Growing (Each TakesNoTime) s t → GoesOn t u → Growing (PollAdds call) t u → Growing (PollsWithin (clock_of t) longest) t u
-    → IfOk result (λ polled. (left : ℕ) (talk : List Placed) (now : ℕ) → WhereTold (λ places. now ≡ newest_time (entries places)) s → now + longest ≤ newest_time (entries talk) + answer_wait → 1 ≤ left → WhereExact (LeavesSince left talk) s → WhereExact (LeftOn polled left talk) u)
+    → IfOk result (λ polled. (left : ℕ) (talk : List Placed) (now : ℕ) → WhereTold (λ places. now ≡ newest_time (entries places)) s → now + longest ≤ newest_time (entries talk) + answer_wait → 1 ≤ left → WhereClock (LeavesSince left talk) s → WhereClock (LeftOn polled left talk) u)
 told_left (Ok polled) (Err why) told acted longest s t u g h time k adds within = tt
 told_left (Err fault) (Err why) told acted longest s t u g h time k adds within = tt
 told_left (Err fault) (Ok polled) told acted longest s t u g h time k adds within = absurd (cc)
 told_left (Ok polled) (Ok same) told acted longest s t u g h time k adds within = λ left talk now at until some l.
     let is : polled ≡ same = cc in
-    subst (λ z. WhereExact (LeftOn z left talk) u) is (poll_left polled longest left now talk t u k adds within (acts_time acted now s t g h time at) until some (acts_left acted left talk s t g h time l))
+    subst (λ z. WhereClock (LeftOn z left talk) u) is (poll_left polled longest left now talk t u k adds within (acts_time acted now s t g h time at) until some (acts_left acted left talk s t g h time l))
 
 -- ---- all of it
 
-pub awaits_after : (s u : Story) (talk : List Placed) → places_in s ≡ Some talk → WhereExact (HasAwaited talk) u → (new : List Placed) → places_in u ≡ Some new → clock_of u ≡ Exact → Step EndsOnce s u new → ComesFrom LeavesOn s u new
-awaits_after s u talk told awaited new p exact x =
+pub awaits_after : (s u : Story) (talk : List Placed) → places_in s ≡ Some talk → WhereClock (HasAwaited talk) u → (new : List Placed) → places_in u ≡ Some new → Step EndsOnce s u new → ComesFrom (LeavesOn (clock_of u)) s u new
+awaits_after s u talk told awaited new p x =
     let same : x.old ≡ talk = some_is x.old talk (sym x.told ∙ told) in
-    let h = awaited new p exact in
+    let h = awaited new p in
     let added : h.added ≡ x.added = append_cancel_right h.added x.added talk (sym h.all ∙ (x.grow ∙ ap (λ z. x.added ++ z) same)) in
     record {
       old = x.old;
       told = x.told;
       clock = x.clock;
-      is = record { added = x.added; all = x.grow; ends = x.is; awaits = subst (λ z. AwaitsResponse z x.added) (sym same) (subst (AwaitsResponse talk) added h.awaits) };
+      is = record { added = x.added; all = x.grow; ends = x.is; awaits = subst (λ z. AwaitsResponse (clock_of u) z x.added) (sym same) (subst (AwaitsResponse (clock_of u) talk) added h.awaits) };
     }

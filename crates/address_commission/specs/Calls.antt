@@ -11,8 +11,8 @@ use Rattle.line_model.specs.Moments.{moments}
 use Rattle.line_model.specs.Faults.{flood}
 use Rattle.address_talk.specs.Rounds.{has_lost, GoesOnFrom}
 use Rattle.address_talk.specs.Talk.{TalksRightly}
-use Rattle.address_talk.specs.Ends.{AwaitsResponse, datagrams_in, FailsSo, FailsRightly}
-use Rattle.line_model.specs.LinkStory.{Story, newest_time}
+use Rattle.address_talk.specs.Ends.{AwaitsResponse, LeavesOn, datagrams_in, FailsSo, FailsRightly}
+use Rattle.line_model.specs.LinkStory.{Story, Clock, Exact, clock_of, newest_time}
 use Rattle.tunnel_link.specs.declared.came.Came.{Came}
 use Rattle.tunnel_link.specs.declared.came.What.{What}
 use Rattle.tunnel_link.specs.declared.came.What.TheVariants as came
@@ -80,17 +80,17 @@ PaceKept old new = KeepsPaces (entries old) → KeepsPaces (entries new)
 
 -- ---- while the response is awaited, behind this talk: so many datagrams may still come
 
-pub record LeavesSince (left : ℕ) (talk places : List Placed) : Type 0 where
+pub record LeavesSince (left : ℕ) (talk : List Placed) (clock : Clock) (places : List Placed) : Type 0 where
   pub added : List Placed
   pub all : places ≡ added ++ talk
   pub kept : has_lost (moments places) ≡ false
-  pub in_time : newest_time (entries places) ≤ newest_time (entries talk) + answer_wait
+  pub in_time : clock ≡ Exact → newest_time (entries places) ≤ newest_time (entries talk) + answer_wait
   pub count : datagrams_in added + left ≡ most_datagrams
 
-pub record HasAwaited (talk places : List Placed) : Type 0 where
+pub record HasAwaited (talk : List Placed) (clock : Clock) (places : List Placed) : Type 0 where
   pub added : List Placed
   pub all : places ≡ added ++ talk
-  pub awaits : AwaitsResponse talk added
+  pub awaits : AwaitsResponse clock talk added
 
 abbrev pub got_one : What → ℕ
 got_one came.Quiet = 0
@@ -100,5 +100,9 @@ got_one (came.Up tunnel) = 1
 got_one (came.Frame frame) = 1
 
 -- after a poll the channel stays, and so many fewer may come; or it was lost
-abbrev pub LeftOn : Came → ℕ → List Placed → List Placed → Type 0
-LeftOn polled left talk places = (polled.loss ≡ Stays → LeavesSince (left - got_one polled.what) talk places) × ((polled.loss ≡ Stays → ⊥) → HasAwaited talk places)
+abbrev pub LeftOn : Came → ℕ → List Placed → Clock → List Placed → Type 0
+LeftOn polled left talk clock places = (polled.loss ≡ Stays → LeavesSince (left - got_one polled.what) talk clock places) × ((polled.loss ≡ Stays → ⊥) → HasAwaited talk clock places)
+
+-- the channel is ended
+abbrev pub LeavesTo : Story → Story → Type 0
+LeavesTo before after = Going (LeavesOn (clock_of after)) before after

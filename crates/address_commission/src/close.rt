@@ -15,11 +15,11 @@ ghost use Rattle.tunnel_link.specs.Adds.{Growing};
 ghost use Rattle.tunnel_link.specs.Alone.{Each, EndsNone};
 ghost use Rattle.tunnel_link.specs.Goes.{GoesOn};
 ghost use Rattle.address_commission.specs.Always.{AsksNoOther};
-ghost use Rattle.address_commission.specs.Calls.{ClosesSo, HasAwaited, LeavesSince, LeftOn, PaceKept, got_one};
-ghost use Rattle.address_talk.specs.Ends.{ComesLate, FailsBy, FailsSo, LeavesOn};
+ghost use Rattle.address_commission.specs.Calls.{ClosesSo, HasAwaited, LeavesSince, LeavesTo, LeftOn, PaceKept, got_one};
+ghost use Rattle.address_talk.specs.Ends.{ComesLate, FailsBy, FailsSo};
 ghost use Rattle.address_commission.specs.Going.{Going, GoingExact};
 ghost use Rattle.address_talk.specs.Rounds.{has_lost};
-ghost use Rattle.address_commission.specs.Exact.{WhereExact};
+ghost use Rattle.address_commission.specs.Exact.{WhereClock};
 ghost use Rattle.tunnel_link.specs.Rights.{WhereTold};
 
 use crate::told::told;
@@ -41,7 +41,7 @@ pub fn close<R: Wait, L: Link>(rt: &R, tunnel: &mut Tunnel<L>) -> Result<(), Ass
     requires stays { WhereTold (λ places. StaysOpen (entries places)) (L.story tunnel.old.link) }
     ensures closes { (wanted : Address) → Going (ClosesSo wanted) (L.story tunnel.old.link) (L.story tunnel.new.link) }
     ensures paces { GoingExact PaceKept (L.story tunnel.old.link) (L.story tunnel.new.link) }
-    ensures leaves { OnOk result (¬ Rose (L.faults tunnel.old.link).failed (L.faults tunnel.new.link).failed → GoingExact LeavesOn (L.story tunnel.old.link) (L.story tunnel.new.link)) }
+    ensures leaves { OnOk result (¬ Rose (L.faults tunnel.old.link).failed (L.faults tunnel.new.link).failed → LeavesTo (L.story tunnel.old.link) (L.story tunnel.new.link)) }
     ensures fails { IfErr result (λ fault. WhereTold (FailsSo fault) (L.story tunnel.new.link)) }
     ensures late { IfErr result ComesLate }
     ensures puts { AsksNoOther (L.story tunnel.old.link) (L.story tunnel.new.link) }
@@ -63,7 +63,7 @@ fn leave<R: Wait, L: Link>(rt: &R, tunnel: &mut Tunnel<L>) -> Result<(), AssignF
     requires stays { WhereTold (λ places. StaysOpen (entries places)) (L.story tunnel.old.link) }
     ensures closes { (wanted : Address) → Going (ClosesSo wanted) (L.story tunnel.old.link) (L.story tunnel.new.link) }
     ensures paces { GoingExact PaceKept (L.story tunnel.old.link) (L.story tunnel.new.link) }
-    ensures leaves { OnOk result (GoingExact LeavesOn (L.story tunnel.old.link) (L.story tunnel.new.link)) }
+    ensures leaves { OnOk result (LeavesTo (L.story tunnel.old.link) (L.story tunnel.new.link)) }
     ensures fails { IfErr result (λ fault. WhereTold (FailsSo fault) (L.story tunnel.new.link)) }
     ensures late { IfErr result (λ fault. fault ≢ AssignFault.LinkFailed → ComesLate fault) }
     ensures puts { AsksNoOther (L.story tunnel.old.link) (L.story tunnel.new.link) }
@@ -86,7 +86,7 @@ fn await_response<R: Wait, L: Link>(
     requires stands { tunnel.old.known.fault ≡ None }
     ensures closes { (wanted : Address) → Going (ClosesSo wanted) (L.story tunnel.old.link) (L.story tunnel.new.link) }
     ensures paces { GoingExact PaceKept (L.story tunnel.old.link) (L.story tunnel.new.link) }
-    ensures awaited { OnOk result ((talk : Seq Placed) → newest_time (entries talk) ≡ began → WhereExact (LeavesSince 64 talk) (L.story tunnel.old.link) → WhereExact (HasAwaited talk) (L.story tunnel.new.link)) }
+    ensures awaited { OnOk result ((talk : Seq Placed) → newest_time (entries talk) ≡ began → WhereClock (LeavesSince 64 talk) (L.story tunnel.old.link) → WhereClock (HasAwaited talk) (L.story tunnel.new.link)) }
     ensures grows { GoesOn (L.story tunnel.old.link) (L.story tunnel.new.link) }
     ensures alone { Growing (Each EndsNone) (L.story tunnel.old.link) (L.story tunnel.new.link) }
     ensures fails { IfErr result (λ fault. WhereTold (FailsSo fault) (L.story tunnel.new.link)) }
@@ -117,7 +117,7 @@ fn waits<L: Link>(tunnel: &mut Tunnel<L>, longest_ms: u32) -> Result<Came, Assig
     ensures closes { (wanted : Address) → Going (ClosesSo wanted) (L.story tunnel.old.link) (L.story tunnel.new.link) }
     ensures paces { GoingExact PaceKept (L.story tunnel.old.link) (L.story tunnel.new.link) }
     ensures awaits { IfOk result (λ came. (left : ℕ) (talk : Seq Placed) (now : ℕ) → WhereTold (λ places. now ≡ newest_time (entries places)) (L.story tunnel.old.link) → now + longest_ms ≤ newest_time (entries talk) + answer_wait
-        → 1 ≤ left → WhereExact (LeavesSince left talk) (L.story tunnel.old.link) → WhereExact (LeftOn came left talk) (L.story tunnel.new.link)) }
+        → 1 ≤ left → WhereClock (LeavesSince left talk) (L.story tunnel.old.link) → WhereClock (LeftOn came left talk) (L.story tunnel.new.link)) }
     ensures stands { OnOk result (tunnel.new.known.fault ≡ None) }
     ensures grows { GoesOn (L.story tunnel.old.link) (L.story tunnel.new.link) }
     ensures alone { Growing (Each EndsNone) (L.story tunnel.old.link) (L.story tunnel.new.link) }

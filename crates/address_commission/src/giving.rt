@@ -13,7 +13,7 @@ ghost use Rattle.address_world.specs.AddressWorld.{AddressEvent, AddressWorld, r
 ghost use Rattle.address_world.specs.Keeps.{AlwaysKeepsUnits, PutsOnly};
 ghost use Rattle.address_talk.specs.Ends.{EndsSo, FailsBy, HasThreeTries, Leaves};
 ghost use Rattle.address_commission.specs.Always.{AsksSoFar, KeepsChannel};
-ghost use Rattle.address_commission.specs.Exact.{WhereClock, WhereExact};
+ghost use Rattle.address_commission.specs.Exact.{WhereClock};
 ghost use Rattle.tunnel_link.specs.Rights.{WhereTold};
 
 use crate::close::close;
@@ -36,7 +36,7 @@ pub fn assign<R: Wait, L: AddressLink>(
 ) -> (L, Result<Assigned, AssignFault>)
     requires { IsNewLink (L.story link) }
     ensures ends { WhereClock (EndsSo wanted result.1) (L.story result.0) }
-    ensures leaves { IfOk result.1 (λ assigned. ¬ Rose (L.faults link).failed (L.faults result.0).failed → WhereExact (Leaves wanted assigned) (L.story result.0)) }
+    ensures leaves { IfOk result.1 (λ assigned. ¬ Rose (L.faults link).failed (L.faults result.0).failed → WhereClock (Leaves wanted assigned) (L.story result.0)) }
     ensures channel { WhereTold KeepsChannel (L.story result.0) }
     ensures puts { WhereTold (λ places. PutsOnly wanted (entries places)) (L.story result.0) }
     ensures units { (start : AddressWorld) (events : List AddressEvent) → L.told result.0 ≡ Told start events → AlwaysKeepsUnits wanted start events }
@@ -65,7 +65,7 @@ fn talk<R: Wait, L: Link>(
     requires stands { tunnel.old.known.fault ≡ None }
     requires new { IsNewLink (L.story tunnel.old.link) }
     ensures ends { WhereClock (EndsSo wanted result) (L.story tunnel.new.link) }
-    ensures leaves { IfOk result (λ assigned. ¬ Rose (L.faults tunnel.old.link).failed (L.faults tunnel.new.link).failed → WhereExact (Leaves wanted assigned) (L.story tunnel.new.link)) }
+    ensures leaves { IfOk result (λ assigned. ¬ Rose (L.faults tunnel.old.link).failed (L.faults tunnel.new.link).failed → WhereClock (Leaves wanted assigned) (L.story tunnel.new.link)) }
     ensures puts { AsksSoFar wanted (L.story tunnel.new.link) }
     ensures tries { HasThreeTries result }
     ensures cause { IfErr result (λ fault. FailsBy fault (L.faults tunnel.old.link) (L.faults tunnel.new.link)) }

@@ -59,34 +59,34 @@ pub record EndsOnce (old added : List Placed) : Type 0 where
   pub asks : asks_to_end request.what ≡ true
   pub once : Each EndsNone (request ∷ old) later
 
--- The response is awaited: until the channel was lost, as it is by the response, 10,000 ms passed or 64 datagrams came; and no longer. Where it was lost,
--- that was in the last poll.
+-- The response is awaited: until the channel was lost, as it is by the response, 10,000 ms passed or 64 datagrams came; and no longer, where the clock is
+-- exact. Where it was lost, that was in the last poll.
 abbrev pub datagrams_in : List Placed → ℕ
 datagrams_in [] = 0
 datagrams_in (p ∷ added) = if is_got p.what.what then suc (datagrams_in added) else datagrams_in added
 
-pub record AwaitsResponse (old added : List Placed) : Type 0 where
-  pub over : (has_lost (moments (added ++ old)) ≡ true) ⊎ ((newest_time (entries (added ++ old)) ≡ newest_time (entries old) + answer_wait) ⊎ (datagrams_in added ≡ most_datagrams))
-  pub in_time : newest_time (entries (added ++ old)) ≤ newest_time (entries old) + answer_wait
+pub record AwaitsResponse (clock : Clock) (old added : List Placed) : Type 0 where
+  pub over : (has_lost (moments (added ++ old)) ≡ true) ⊎ ((newest_time (entries old) + answer_wait ≤ newest_time (entries (added ++ old))) ⊎ (datagrams_in added ≡ most_datagrams))
+  pub in_time : clock ≡ Exact → newest_time (entries (added ++ old)) ≤ newest_time (entries old) + answer_wait
   pub few : datagrams_in added ≤ most_datagrams
   pub last : List Placed
   pub older : List Placed
   pub parts : added ≡ last ++ older
   pub kept : has_lost (moments (older ++ old)) ≡ false
-  pub short : newest_time (entries (added ++ old)) ≤ newest_time (entries (older ++ old)) + longest_poll
+  pub short : clock ≡ Exact → newest_time (entries (added ++ old)) ≤ newest_time (entries (older ++ old)) + longest_poll
 
 -- after these places
-pub record LeavesOn (old new : List Placed) : Type 0 where
+pub record LeavesOn (clock : Clock) (old new : List Placed) : Type 0 where
   pub added : List Placed
   pub all : new ≡ added ++ old
   pub ends : EndsOnce old added
-  pub awaits : AwaitsResponse old added
+  pub awaits : AwaitsResponse clock old added
 
--- after the answer, where the clock is exact
-pub record Leaves (wanted : IndAddr) (assigned : Assigned) (places : List Placed) : Type 0 where
+-- after the answer
+pub record Leaves (wanted : IndAddr) (assigned : Assigned) (clock : Clock) (places : List Placed) : Type 0 where
   pub talk : List Placed
-  pub answered : AnsweredBy wanted assigned Exact talk
-  pub leaves : LeavesOn talk places
+  pub answered : AnsweredBy wanted assigned clock talk
+  pub leaves : LeavesOn clock talk places
 
 -- ---- faults
 

@@ -1,4 +1,5 @@
--- At which pace an address is given over a link whose clock is exact (this project's own), by its record. The channel is kept as it should be. Time passes only where something is awaited: a channel, an acknowledgement, a confirmation, or the end of a listening.
+-- At which pace an address is given over a link whose clock is exact (this project's own), by its record. The channel is kept as it should be. Time
+-- passes only where something is awaited: a channel, an acknowledgement, a confirmation, or the end of a listening.
 use Rattle.std.specs.Prelude.{◌≡◌, ◌+◌, ◌<◌, ◌≤◌, true, false, List, [], ◌∷◌, ◌++◌}
 use Rattle.knx_model.specs.declared.address.IndAddr.{IndAddr}
 use Rattle.line_model.specs.Asks.{HasPlace}

@@ -5,7 +5,7 @@ use Rattle.address_talk.specs.Ends.{EndsSo, FailsBy, Leaves}
 use Rattle.address_law.specs.Calm.{AreCalm}
 use Rattle.address_law.specs.Determined.{IsDetermined}
 use Rattle.address_commission.specs.Always.{KeepsChannel}
-use Rattle.address_commission.specs.Exact.{WhereExact}
+use Rattle.address_commission.specs.Exact.{WhereClock}
 use Rattle.address_sim.specs.Driven.{BusNow, FailsAtEnd, RunsOut}
 use Rattle.address_sim.specs.Follows.{FollowsText}
 use Rattle.address_sim.specs.Stays.{lines_of}
@@ -157,13 +157,13 @@ units_give words reading before after end h = does_by (after ≡ before) (λ tex
 
 -- ---- what was given, by what the link told
 
-pub over_of : (wanted : IndAddr) (came : Outcome) (before faults : LinkCounts) (link : Story) → before ≡ none_failed → WhereExact (EndsSo wanted came) link → WhereTold KeepsChannel link
-    → WhereTold (λ places. PutsOnly wanted (entries places)) link → IfOk came (λ assigned. ¬ Rose before.failed faults.failed → WhereExact (Leaves wanted assigned) link) → IfErr came (λ fault. FailsBy fault before faults) → GivesOver wanted came faults link
+pub over_of : (wanted : IndAddr) (came : Outcome) (before faults : LinkCounts) (link : Story) → before ≡ none_failed → WhereClock (EndsSo wanted came) link → WhereTold KeepsChannel link
+    → WhereTold (λ places. PutsOnly wanted (entries places)) link → IfOk came (λ assigned. ¬ Rose before.failed faults.failed → WhereClock (Leaves wanted assigned) link) → IfErr came (λ fault. FailsBy fault before faults) → GivesOver wanted came faults link
 over_of wanted came before faults link none ended channel puts leaves cause = record {
   ends = ended;
   channel = channel;
   puts = puts;
-  leaves = subst (λ (n : LinkCounts). IfOk came (λ assigned. ¬ Rose n.failed faults.failed → WhereExact (Leaves wanted assigned) link)) none leaves;
+  leaves = subst (λ (n : LinkCounts). IfOk came (λ assigned. ¬ Rose n.failed faults.failed → WhereClock (Leaves wanted assigned) link)) none leaves;
   cause = subst (λ (n : LinkCounts). IfErr came (λ fault. FailsBy fault n faults)) none cause;
 }
 
@@ -220,8 +220,8 @@ failed_last before after run none (inr most) (inl still) = absurd (not_most afte
 pub given_sim : (wanted : IndAddr) (text : Units) (bus after : BusNow) (came : Outcome) → BeginsAs wanted (Ok text) bus → ((one other : Begun) → lines_of one ≡ lines_of other → one ≡ other) → QuietBuses → QuietTexts → lines_of after.run.begun ≡ lines_of bus.run.begun
     → IsFresh (start after.run) → IsLegal (start after.run) after.run.events → FollowsText after.run.begun.losses (start after.run) after.run.events
     → ((from : AddressWorld) (events : List AddressEvent) → told_of after.run ≡ Told from events → AlwaysKeepsUnits wanted from events) → UnitsDetermine wanted after came → bus.faults ≡ none_failed
-    → FailsAtEnd after.faults.failed after.run → WhereExact (EndsSo wanted came) (story after.run) → WhereTold KeepsChannel (story after.run) → WhereTold (λ places. PutsOnly wanted (entries places)) (story after.run)
-    → IfOk came (λ assigned. ¬ Rose bus.faults.failed after.faults.failed → WhereExact (Leaves wanted assigned) (story after.run)) → IfErr came (λ fault. FailsBy fault bus.faults after.faults) → GivesOnBus wanted text after came
+    → FailsAtEnd after.faults.failed after.run → WhereClock (EndsSo wanted came) (story after.run) → WhereTold KeepsChannel (story after.run) → WhereTold (λ places. PutsOnly wanted (entries places)) (story after.run)
+    → IfOk came (λ assigned. ¬ Rose bus.faults.failed after.faults.failed → WhereClock (Leaves wanted assigned) (story after.run)) → IfErr came (λ fault. FailsBy fault bus.faults after.faults) → GivesOnBus wanted text after came
 given_sim wanted text bus after came b law buses texts same fresh legal follows units determine none faults ended channel puts leaves cause =
     let begun : after.run.begun ≡ begun_by wanted text = law after.run.begun bus.run.begun same ∙ run_begun wanted text bus b in
     let follows_it : FollowsText text.1 (start after.run) after.run.events = subst (λ (losses : List UnitLoss). FollowsText losses (start after.run) after.run.events) (ap (λ (z : Begun). z.losses) begun) follows in

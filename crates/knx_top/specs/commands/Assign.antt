@@ -10,7 +10,7 @@ use Rattle.address_talk.specs.declared.assigned.AssignFault.TheVariants.{LinkFai
 use Rattle.address_talk.specs.Ends.{EndsSo, FailsBy, Leaves}
 use Rattle.address_law.specs.Determined.{IsDetermined}
 use Rattle.address_commission.specs.Always.{KeepsChannel}
-use Rattle.address_commission.specs.Exact.{WhereExact}
+use Rattle.address_commission.specs.Exact.{WhereClock}
 use Rattle.address_sim.specs.Driven.{BusNow, RunsOut}
 use Rattle.address_sim.specs.Follows.{FollowsText}
 use Rattle.address_sim.specs.Told.{Begun, start, story, units_now}
@@ -70,15 +70,15 @@ assign_sim_words units wanted = option_map (λ (ia : IndAddr). let w : AssignSim
 abbrev pub Outcome : Type 0
 Outcome = Result Assigned AssignFault
 
--- By what the link told last: the channel is kept as it should be, whatever the clock. Where that is exact, an answer and a fault are told exactly at their
--- cause, and behind an answer the channel is asked to end, once, unless a call of the link failed. A fault of the link, or its want of memory, is told only
--- where its count of that rose, which was 0.
+-- By what the link told last, whatever its clock: an answer and a fault are told exactly at their cause, the channel is kept as it should be, and behind an
+-- answer it is asked to end, once, unless a call of the link failed. Where the clock is exact the pace is kept too. A fault of the link, or its want of
+-- memory, is told only where its count of that rose, which was 0.
 pub record GivesOver (wanted : IndAddr) (came : Outcome) (faults : LinkCounts) (last : Story) : Type 0 where
-  pub ends : WhereExact (EndsSo wanted came) last
+  pub ends : WhereClock (EndsSo wanted came) last
   pub channel : WhereTold KeepsChannel last
   -- no request whose frame reads was sent but broadcast reads of addresses, broadcast writes of the wanted one, T_Connects and T_Disconnects to it
   pub puts : WhereTold (λ places. PutsOnly wanted (entries places)) last
-  pub leaves : IfOk came (λ assigned. ¬ Rose 0 faults.failed → WhereExact (Leaves wanted assigned) last)
+  pub leaves : IfOk came (λ assigned. ¬ Rose 0 faults.failed → WhereClock (Leaves wanted assigned) last)
   pub cause : IfErr came (λ fault. FailsBy fault none_failed faults)
 
 -- this came of it, of which P holds; or memory is wanting, to go on or to tell it

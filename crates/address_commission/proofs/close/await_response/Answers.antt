@@ -1,4 +1,5 @@
 use Rattle.std.proofs.Common.{◌∙◌, ◌-◌, ◌≤◌, ap, subst, sym, inl, inr, refl, arith}
+use Rattle.line_model.specs.LinkStory.{clock_of}
 use Rattle.line_model.proofs.Counted.{fall_never, stand}
 use Rattle.tunnel_link.specs.Alone.{EndsNone}
 use Rattle.tunnel_link.proofs.Alone.{both_each, none_each}
@@ -54,8 +55,8 @@ returns-then-left-eq0-clause-awaited g c = λ talk is l.
     (elim c.then-left-eq0.either [ inl none ↦ inl none | inr h ↦ inr (subst (λ n. 10000 ≤ n) c.saturating_sub-passed.ensures h.1) ]) (c.loop.invariant.awaits talk is l)
 
 pub returns-then-not-stays-clause-awaited : goal.returns-then-not-stays-clause-awaited
-returns-then-not-stays-clause-awaited g c = λ talk is l places p exact.
-    (c.in_ok-came.ensures.awaits c.loop.left talk c.now.result c.now.ensures.newest (omega (arith, is, c.saturating_sub-passed.ensures, c.if-passed-ge-LEAVING_MS.false)) (omega (arith, c.if-left-eq0.false)) (c.loop.invariant.awaits talk is l) places p exact).1
+returns-then-not-stays-clause-awaited g c = λ talk is l places p.
+    (c.in_ok-came.ensures.awaits c.loop.left talk c.now.result c.now.ensures.newest (omega (arith, is, c.saturating_sub-passed.ensures, c.if-passed-ge-LEAVING_MS.false)) (omega (arith, c.if-left-eq0.false)) (c.loop.invariant.awaits talk is l) places p).1
     (c.stays.ensures.lost c.if-not-stays.true)
 
 pub loop-preserved : goal.loop-preserved
@@ -64,9 +65,9 @@ loop-preserved g c = record {
   finite = tt;
   closes = λ wanted. closes_on wanted _ _ _ (c.loop.invariant.closes wanted) (c.waits.ensures.closes wanted);
   paces = paces_then _ _ _ c.loop.invariant.paces c.waits.ensures.paces;
-  awaits = λ talk is l places p exact.
-      subst (λ n. LeavesSince n talk places) (sym (c.saturating_sub-left.ensures ∙ ap (λ k. c.loop.left - k) c.got_one.ensures))
-      ((c.in_ok-came.ensures.awaits c.loop.left talk c.now.result c.now.ensures.newest (omega (arith, is, c.saturating_sub-passed.ensures, c.if-passed-ge-LEAVING_MS.false)) (omega (arith, c.if-left-eq0.false)) (c.loop.invariant.awaits talk is l) places p exact).0
+  awaits = λ talk is l places p.
+      subst (λ n. LeavesSince n talk (clock_of (g.L.Link.story c.waits.new.tunnel.link)) places) (sym (c.saturating_sub-left.ensures ∙ ap (λ k. c.loop.left - k) c.got_one.ensures))
+      ((c.in_ok-came.ensures.awaits c.loop.left talk c.now.result c.now.ensures.newest (omega (arith, is, c.saturating_sub-passed.ensures, c.if-passed-ge-LEAVING_MS.false)) (omega (arith, c.if-left-eq0.false)) (c.loop.invariant.awaits talk is l) places p).0
       (c.stays.ensures.stays c.if-not-stays.false));
   puts = asks_then _ _ _ c.loop.invariant.puts c.waits.ensures.puts;
   stands = c.in_ok-came.ensures.stands;

@@ -9,7 +9,7 @@ use Rattle.tunnel_link.specs.Goes.{GoesOn}
 use Rattle.address_commission.specs.Always.{AsksNoOther}
 use Rattle.address_commission.specs.Going.{Going, GoingExact}
 use Rattle.address_commission.specs.Calls.{ClosesSo, LeavesSince, PaceKept}
-use Rattle.address_commission.specs.Exact.{WhereExact}
+use Rattle.address_commission.specs.Exact.{WhereClock}
 use Rattle.address_commission.proofs.close.await_response.Given as goal
 
 -- no request is put, and the response is still awaited
@@ -19,7 +19,7 @@ invariant-loop g l = record {
   finite : (goal.iterator-loop g).is_finite l.iterator';
   closes : (wanted : Address) → Going (ClosesSo wanted) (g.L.Link.story l.fn.tunnel.link) (g.L.Link.story l.tunnel.link);
   paces : GoingExact PaceKept (g.L.Link.story l.fn.tunnel.link) (g.L.Link.story l.tunnel.link);
-  awaits : (talk : List Placed) → newest_time (entries talk) ≡ l.fn.began → WhereExact (LeavesSince 64 talk) (g.L.Link.story l.fn.tunnel.link) → WhereExact (LeavesSince l.left talk) (g.L.Link.story l.tunnel.link);
+  awaits : (talk : List Placed) → newest_time (entries talk) ≡ l.fn.began → WhereClock (LeavesSince 64 talk) (g.L.Link.story l.fn.tunnel.link) → WhereClock (LeavesSince l.left talk) (g.L.Link.story l.tunnel.link);
   puts : AsksNoOther (g.L.Link.story l.fn.tunnel.link) (g.L.Link.story l.tunnel.link);
   stands : l.tunnel.known.fault ≡ None;
   grows : GoesOn (g.L.Link.story l.fn.tunnel.link) (g.L.Link.story l.tunnel.link);
