@@ -23,12 +23,12 @@ pub enum Assigned {
 pub enum AssignFault {
     /// The channel was lost.
     TunnelLost,
-    /// The link's count of faults rose.
+    /// The link's count of failed calls rose.
     LinkFailed,
     /// Three tries in turn to get a channel failed.
     GatewayRefused([Try; 3]),
     /// 16,777,216 datagrams were taken.
     Flooded,
-    /// There was no memory.
+    /// There was no memory; the link's count of such answers rose.
     NoMemory(NoMemory),
 }

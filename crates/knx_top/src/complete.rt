@@ -23,7 +23,7 @@ ghost use Rattle.knx_top.specs.commands.Sim.{RunsScript, SimWords, commission_to
 ghost use Rattle.knx_top.specs.commands.Migrate.{IsMigratedText};
 ghost use Rattle.knx_top.specs.commands.Tables.{IsTablesText};
 
-/// Where the files of `check`, `tables` or `migrate` are told, no test fails and no count rose, what the clauses of `knx` say comes to this: the
+/// Where the files of `check`, `tables` or `migrate` are told, no test fails and no count rose, what the rows of `Does` say comes to this: the
 /// whole text is written with status 0, or there was no memory. So it is with `decode`, where the word is one of octets; and with `sim`
 /// and `big`: what is asked for is run, and the whole report, or its sums, is written with its status, or there was no memory. And so with
 /// `download` and `gateway`: the gateway or the port of the words is opened once, and what came of it is written whole with its status, or
