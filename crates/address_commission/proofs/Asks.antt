@@ -33,7 +33,7 @@ use Rattle.address_talk.specs.Pace.{Paced}
 use Rattle.address_commission.specs.Going.{Going, OneMore, AsksOne}
 use Rattle.address_commission.specs.Listening.{HeardSo, HearsRounds, Listens, HasWaited, IsTurnTo, IsOut, ListensFor, AwaitsFor, quiet_after}
 use Rattle.address_talk.specs.Ends.{Stands, FailsSo}
-use Rattle.address_commission.specs.Calls.{ToldAs, CausedBy, AsksGoes, TalkFails, TalkGoes}
+use Rattle.address_commission.specs.Calls.{ToldAs, CausedBy, AsksGoes, TalkGoes}
 use Rattle.address_commission.proofs.Calls.{before, paced_on, paced_so_far, stays_open_on}
 use Rattle.address_commission.proofs.Folds.{NoGot, quiet_on, count_on}
 use Rattle.address_commission.proofs.Steps.{step_of}
@@ -247,9 +247,6 @@ put_told wanted asked e f cemi at is b (Err fault) (Ok done) told s t g h time n
 put_told wanted asked e f cemi at is b (Err fault) (Err why) told s t g h time none turn cause = put_fails wanted asked e f cemi at is b fault s t why g h time none turn cause
 
 -- ---- a request and its wait, where it listened before
-
-pub asked_fails : {X : Type 0} (wanted : IndAddr) (asked : Asked) (e f : Ear) (s u : Story) (result : Result X AssignFault) → AsksGoes wanted asked e f s u result → WhereClock (Listens wanted e) s → TalkFails wanted u result
-asked_fails wanted asked e f s u result m l = m.fails l
 
 pub out_goes : (wanted : IndAddr) (asked : Asked) (e f : Ear) (s u : Story) (result : Result (Unit {0}) AssignFault) → AsksGoes wanted asked e f s u result → OnOk result (WhereTold (HasWaited (quiet_after asked) f) u) → WhereClock (Listens wanted e) s → OnOk result (WhereClock (IsOut wanted f) u)
 out_goes wanted asked e f s u (Ok done) m w l = asked_out wanted asked e f s u m w l

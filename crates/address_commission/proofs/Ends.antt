@@ -26,6 +26,8 @@ use Rattle.address_commission.specs.Exact.{WhereClock}
 use Rattle.address_law.specs.Calm.{AreCalm}
 use Rattle.address_law.specs.Determined.{IsDetermined}
 use Rattle.address_world.specs.Shown.{shown}
+use Rattle.address_commission.proofs.Steps.{some_is}
+use Rattle.address_commission.specs.Always.{KeepsChannel}
 use Rattle.address_talk.proofs.Ends.{all_first, ends_rightly}
 use Rattle.address_talk.specs.Ends.{EndsSo, FailsRightly, HasThreeTries}
 
@@ -33,6 +35,14 @@ use Rattle.address_talk.specs.Ends.{EndsSo, FailsRightly, HasThreeTries}
 
 pub fails_before : (wanted : IndAddr) (why : AssignFault) (t : Story) → WhereClock (FailsRightly wanted why) t → WhereClock (EndsSo wanted (Err why)) t
 fails_before wanted why t h new p = inl (h new p)
+
+-- ---- what was sent
+
+pub keeps_channel : (k : Known) (story : Story) → KeepsRecord k story → WhereTold KeepsChannel story
+keeps_channel k story keeps places e = let right = (keeps places e).right in record { renews = right.renews; sends = right.sends; acknowledges = right.acknowledges; parts = right.parts }
+
+pub puts_only : (wanted : IndAddr) (result : Result Assigned AssignFault) (k : Known) (story : Story) → WhereClock (EndsSo wanted result) story → KeepsRecord k story → ((r : List Entry) → SendsRightly r → AllAskFirst wanted r → PutsOnly wanted r) → WhereTold (λ places. PutsOnly wanted (entries places)) story
+puts_only wanted result k story ends keeps law places e = law (entries places) (keeps places e).right.sends (all_first wanted places (ends_rightly wanted result (clock_of story) places (ends places e)))
 
 -- ---- the units
 
@@ -43,9 +53,7 @@ units_kept wanted result k story told ends keeps agrees puts law start events is
     let truly : TellsTruly start events story = subst (λ (z : AddressStory). Agrees z story) is agrees in
     let places : places_in story ≡ Some (counted (record_of start events)) = ap places_in truly.recorded in
     let all : entries (counted (record_of start events)) ≡ record_of start events = entries_counted (record_of start events) in
-    let first : AllAskFirst wanted (record_of start events) = subst (AllAskFirst wanted) all (all_first wanted (counted (record_of start events)) (ends_rightly wanted result (clock_of story) (counted (record_of start events)) (ends (counted (record_of start events)) places))) in
-    let sends : SendsRightly (record_of start events) = subst SendsRightly all (keeps (counted (record_of start events)) places).right.sends in
-    law start events truly.fresh (puts (record_of start events) sends first)
+    law start events truly.fresh (subst (PutsOnly wanted) all (puts_only wanted result k story ends keeps puts (counted (record_of start events)) places))
 
 pub units_determined : (wanted : IndAddr) (result : Result Assigned AssignFault) (k : Known) (story : Story) (told : AddressStory) → WhereClock (EndsSo wanted result) story → KeepsRecord k story → Agrees told story → HasThreeTries result
     → ((wanted : IndAddr) (start : AddressWorld) (events : List AddressEvent) (came : Result Assigned AssignFault) → HasThreeTries came → IsFresh start → IsLegal start events → AreCalm start events → RenewsRightly (record_of start events) → SendsRightly (record_of start events)
@@ -61,9 +69,6 @@ units_determined wanted result k story told ends keeps agrees three law start ev
     (subst (λ (c : Clock). EndsSo wanted result c (counted r)) (ap clock_of truly.recorded) (ends (counted r) places))
 
 -- ---- how it begins
-
-some_is : {X : Type 0} (x y : X) → Some x ≡ Some y → x ≡ y
-some_is x y e = cc
 
 new_places : (s : Story) → IsNewLink s → (places : List Placed) → places_in s ≡ Some places → places ≡ []
 new_places Untold n places e = absurd (let z : None ≡ Some places = e in cc)

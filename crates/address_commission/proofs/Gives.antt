@@ -15,7 +15,7 @@ use Rattle.address_commission.specs.declared.ear.Heard.TheVariants as ear
 use Rattle.address_talk.specs.Rounds.{Round, rounds, answers}
 use Rattle.address_talk.specs.Talk.{AsksFor, AllSilent, Searches, OneOther, MayAsk, ReadsFirst, Connects, Disconnects, Writes, ReadsLast, Gives, NobodyAnswers, HasItAlready, ManyAnswer, ManyAnswerLate, AnotherHasIt, HasItNow, IsntSure}
 use Rattle.address_commission.specs.Going.{Going, OneMore, AsksOne}
-use Rattle.address_commission.specs.Listening.{HeardSo, HearsRounds, Listens, Begins, IsTurnTo, IsOut, SearchedSo, FoundSo, TriedBy, SureSo}
+use Rattle.address_commission.specs.Listening.{HeardSo, HearsRounds, Begins, IsTurnTo, IsOut, SearchedSo, FoundSo, TriedBy, SureSo}
 use Rattle.address_talk.specs.Ends.{AnsweredBy}
 use Rattle.address_commission.proofs.Asks.{read_is}
 use Rattle.address_commission.specs.Exact.{WhereClock}
@@ -300,6 +300,3 @@ pub third_searched : (wanted : IndAddr) (e f : Ear) (s t : Story) (result : Resu
     → OnOk result (WhereTold (λ places. SearchedSo wanted f.heard (rounds (moments places))) t)
 third_searched wanted e f s t (Ok done) h out none m o = anybody wanted f t (next_read wanted 1 e s t h out none m) o
 third_searched wanted e f s t (Err why) h out none m o = tt
-
-pub out_listens : (wanted : IndAddr) (e : Ear) (s : Story) → WhereClock (IsOut wanted e) s → WhereClock (Listens wanted e) s
-out_listens wanted e s out p q = (out p q).listens

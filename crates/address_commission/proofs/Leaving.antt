@@ -6,7 +6,6 @@ use Rattle.line_model.specs.declared.fault.HubFault.{HubFault}
 use Rattle.line_model.specs.declared.fault.HubFault.TheVariants as hub
 use Rattle.line_model.specs.ChannelLost.{answer_wait}
 use Rattle.line_model.specs.ClientView.{Loses, Takes}
-use Rattle.line_model.specs.Closing.{asks_to_end}
 use Rattle.line_model.specs.Haste.{KeepsPaces}
 use Rattle.line_model.specs.Leaves.{StaysOpen}
 use Rattle.line_model.specs.LinkStory.{Story, Exact, clock_of, newest_time, places_in}
@@ -198,14 +197,6 @@ waited left began now talk s time is enough l places p =
     }
 
 -- ---- the request
-
-got_asks_not : (x : Entry) → asks_to_end x ≡ true → is_got x.what ≡ false
-got_asks_not x h = by_item x.what h where
-  by_item : (what : Item) → asks_to_end (record { what = what; now = x.now }) ≡ true → is_got what ≡ false
-  by_item (Put octets) h = refl
-  by_item Renewed h = refl
-  by_item (Got octets) h = absurd (let z : false ≡ true = h in cc)
-  by_item Quiet h = refl
 
 once_no_got : (old added : List Placed) → SendsOnce old added → Each TakesNoTime old added → datagrams_in added ≡ 0
 once_no_got old _ Nothing t = refl

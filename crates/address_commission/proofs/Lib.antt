@@ -7,5 +7,4 @@ pub mod Asks
 pub mod Gives
 pub mod Leaving
 pub mod Closing
-pub mod Asking
 pub mod Ends

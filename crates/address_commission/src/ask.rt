@@ -2,7 +2,6 @@
 
 ghost use Rattle.std.specs.Prelude.{◌≡◌, IfErr, OnOk, None};
 ghost use Rattle.line_model.specs.Polled.{NeverFall};
-ghost use Rattle.address_commission.specs.Always.{AsksSoFar, IsFree};
 ghost use Rattle.address_commission.specs.Calls.{AsksGoes, TalkFails};
 ghost use Rattle.address_talk.specs.Ends.{FailsBy};
 ghost use Rattle.address_commission.specs.Going.{AsksOne, Going};
@@ -33,15 +32,12 @@ pub fn ask<R: Wait, L: Link>(
     asked: Asked,
 ) -> Result<(), AssignFault>
     requires stands { tunnel.old.known.fault ≡ None }
-    requires free { IsFree (L.story tunnel.old.link) }
     requires turn { WhereTold (IsTurnTo wanted asked) (L.story tunnel.old.link) }
     requires listens { WhereClock (Listens wanted ear.old) (L.story tunnel.old.link) }
     ensures moves { OnOk result (Going (AsksOne wanted asked) (L.story tunnel.old.link) (L.story tunnel.new.link)) }
     ensures fails { TalkFails wanted (L.story tunnel.new.link) result }
     ensures out { OnOk result (WhereClock (IsOut wanted ear.new) (L.story tunnel.new.link)) }
     ensures stands { OnOk result (tunnel.new.known.fault ≡ None) }
-    ensures free { OnOk result (IsFree (L.story tunnel.new.link)) }
-    ensures puts { AsksSoFar wanted (L.story tunnel.old.link) → AsksSoFar wanted (L.story tunnel.new.link) }
     ensures cause { IfErr result (λ fault. FailsBy fault (L.faults tunnel.old.link) (L.faults tunnel.new.link)) }
     ensures count { NeverFall (L.faults tunnel.old.link) (L.faults tunnel.new.link) }
     ensures script { L.script tunnel.new.link ≡ L.script tunnel.old.link }
@@ -58,11 +54,9 @@ fn put<L: Link>(
     asked: Asked,
 ) -> Result<(), AssignFault>
     requires stands { tunnel.old.known.fault ≡ None }
-    requires free { IsFree (L.story tunnel.old.link) }
     requires turn { WhereTold (IsTurnTo wanted asked) (L.story tunnel.old.link) }
     ensures goes { AsksGoes wanted asked ear.old ear.new (L.story tunnel.old.link) (L.story tunnel.new.link) result }
     ensures stands { OnOk result (tunnel.new.known.fault ≡ None) }
-    ensures puts { AsksSoFar wanted (L.story tunnel.old.link) → AsksSoFar wanted (L.story tunnel.new.link) }
     ensures cause { IfErr result (λ fault. FailsBy fault (L.faults tunnel.old.link) (L.faults tunnel.new.link)) }
     ensures count { NeverFall (L.faults tunnel.old.link) (L.faults tunnel.new.link) }
     ensures script { L.script tunnel.new.link ≡ L.script tunnel.old.link }

@@ -14,7 +14,6 @@ ghost use Rattle.line_model.specs.Record.{Placed, entries};
 ghost use Rattle.tunnel_link.specs.Adds.{Growing};
 ghost use Rattle.tunnel_link.specs.Alone.{Each, EndsNone};
 ghost use Rattle.tunnel_link.specs.Goes.{GoesOn};
-ghost use Rattle.address_commission.specs.Always.{AsksNoOther};
 ghost use Rattle.address_commission.specs.Calls.{ClosesSo, HasAwaited, LeavesSince, LeavesTo, LeftOn, PaceKept, got_one};
 ghost use Rattle.address_talk.specs.Ends.{ComesLate, FailsBy, FailsSo};
 ghost use Rattle.address_commission.specs.Going.{Going, GoingExact};
@@ -44,7 +43,6 @@ pub fn close<R: Wait, L: Link>(rt: &R, tunnel: &mut Tunnel<L>) -> Result<(), Ass
     ensures leaves { OnOk result (¬ Rose (L.faults tunnel.old.link).failed (L.faults tunnel.new.link).failed → LeavesTo (L.story tunnel.old.link) (L.story tunnel.new.link)) }
     ensures fails { IfErr result (λ fault. WhereTold (FailsSo fault) (L.story tunnel.new.link)) }
     ensures late { IfErr result ComesLate }
-    ensures puts { AsksNoOther (L.story tunnel.old.link) (L.story tunnel.new.link) }
     ensures cause { IfErr result (λ fault. FailsBy fault (L.faults tunnel.old.link) (L.faults tunnel.new.link)) }
     ensures count { NeverFall (L.faults tunnel.old.link) (L.faults tunnel.new.link) }
     ensures script { L.script tunnel.new.link ≡ L.script tunnel.old.link }
@@ -66,7 +64,6 @@ fn leave<R: Wait, L: Link>(rt: &R, tunnel: &mut Tunnel<L>) -> Result<(), AssignF
     ensures leaves { OnOk result (LeavesTo (L.story tunnel.old.link) (L.story tunnel.new.link)) }
     ensures fails { IfErr result (λ fault. WhereTold (FailsSo fault) (L.story tunnel.new.link)) }
     ensures late { IfErr result (λ fault. fault ≢ AssignFault.LinkFailed → ComesLate fault) }
-    ensures puts { AsksNoOther (L.story tunnel.old.link) (L.story tunnel.new.link) }
     ensures cause { IfErr result (λ fault. FailsBy fault (L.faults tunnel.old.link) (L.faults tunnel.new.link)) }
     ensures count { NeverFall (L.faults tunnel.old.link) (L.faults tunnel.new.link) }
     ensures script { L.script tunnel.new.link ≡ L.script tunnel.old.link }
@@ -91,7 +88,6 @@ fn await_response<R: Wait, L: Link>(
     ensures alone { Growing (Each EndsNone) (L.story tunnel.old.link) (L.story tunnel.new.link) }
     ensures fails { IfErr result (λ fault. WhereTold (FailsSo fault) (L.story tunnel.new.link)) }
     ensures late { IfErr result (λ fault. fault ≢ AssignFault.LinkFailed → ComesLate fault) }
-    ensures puts { AsksNoOther (L.story tunnel.old.link) (L.story tunnel.new.link) }
     ensures cause { IfErr result (λ fault. FailsBy fault (L.faults tunnel.old.link) (L.faults tunnel.new.link)) }
     ensures count { NeverFall (L.faults tunnel.old.link) (L.faults tunnel.new.link) }
     ensures script { L.script tunnel.new.link ≡ L.script tunnel.old.link }
@@ -123,7 +119,6 @@ fn waits<L: Link>(tunnel: &mut Tunnel<L>, longest_ms: u32) -> Result<Came, Assig
     ensures alone { Growing (Each EndsNone) (L.story tunnel.old.link) (L.story tunnel.new.link) }
     ensures fails { IfErr result (λ fault. WhereTold (FailsSo fault) (L.story tunnel.new.link)) }
     ensures late { IfErr result (λ fault. fault ≢ AssignFault.LinkFailed → ComesLate fault) }
-    ensures puts { AsksNoOther (L.story tunnel.old.link) (L.story tunnel.new.link) }
     ensures cause { IfErr result (λ fault. FailsBy fault (L.faults tunnel.old.link) (L.faults tunnel.new.link)) }
     ensures count { NeverFall (L.faults tunnel.old.link) (L.faults tunnel.new.link) }
     ensures script { L.script tunnel.new.link ≡ L.script tunnel.old.link }

@@ -4,7 +4,6 @@ ghost use Rattle.std.specs.Prelude.{◌≡◌, List, Some, None};
 ghost use Rattle.knx_model.specs.declared.address.IndAddr.{IndAddr as Address};
 ghost use Rattle.address_commission.specs.Listening.{HeardSo, HearsWhat, TakesFrame};
 ghost use Rattle.address_talk.specs.Rounds.{and_answer, answer_in, confirmed_by};
-ghost use Rattle.address_world.specs.AddressWorld.{broadcast};
 
 use address_world::Asked;
 use apdu_frames::service_in;

@@ -11,8 +11,8 @@ ghost use Rattle.address_law.specs.Determined.{IsDetermined};
 ghost use Rattle.address_world.specs.Shown.{shown};
 ghost use Rattle.address_world.specs.AddressWorld.{AddressEvent, AddressWorld, replay};
 ghost use Rattle.address_world.specs.Keeps.{AlwaysKeepsUnits, PutsOnly};
+ghost use Rattle.address_commission.specs.Always.{KeepsChannel};
 ghost use Rattle.address_talk.specs.Ends.{EndsSo, FailsBy, HasThreeTries, Leaves};
-ghost use Rattle.address_commission.specs.Always.{AsksSoFar, KeepsChannel};
 ghost use Rattle.address_commission.specs.Exact.{WhereClock};
 ghost use Rattle.tunnel_link.specs.Rights.{WhereTold};
 
@@ -66,7 +66,6 @@ fn talk<R: Wait, L: Link>(
     requires new { IsNewLink (L.story tunnel.old.link) }
     ensures ends { WhereClock (EndsSo wanted result) (L.story tunnel.new.link) }
     ensures leaves { IfOk result (λ assigned. ¬ Rose (L.faults tunnel.old.link).failed (L.faults tunnel.new.link).failed → WhereClock (Leaves wanted assigned) (L.story tunnel.new.link)) }
-    ensures puts { AsksSoFar wanted (L.story tunnel.new.link) }
     ensures tries { HasThreeTries result }
     ensures cause { IfErr result (λ fault. FailsBy fault (L.faults tunnel.old.link) (L.faults tunnel.new.link)) }
     ensures count { NeverFall (L.faults tunnel.old.link) (L.faults tunnel.new.link) }

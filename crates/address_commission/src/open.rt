@@ -1,10 +1,13 @@
 //! Opening the channel.
 
 ghost use Rattle.std.specs.Prelude.{◌≡◌, IfErr, OnOk, None};
+ghost use Rattle.line_model.specs.Asks.{HasPlace};
+ghost use Rattle.line_model.specs.ClientView.{channel};
 ghost use Rattle.line_model.specs.Polled.{NeverFall};
+ghost use Rattle.line_model.specs.Record.{entries};
 ghost use Rattle.tunnel_link.specs.Adds.{HasActed};
+ghost use Rattle.tunnel_link.specs.Rights.{WhereTold};
 ghost use Rattle.address_talk.specs.Ends.{FailsBy};
-ghost use Rattle.address_commission.specs.Always.{AsksNoOther, IsFree};
 ghost use Rattle.address_commission.specs.Calls.{TalkGoes};
 ghost use Rattle.address_talk.specs.Rounds.{SameRounds};
 ghost use Rattle.address_commission.specs.declared.ear.Ear.{Ear as HeldEar};
@@ -26,8 +29,7 @@ pub fn open<R: Wait, L: Link>(
     requires stands { tunnel.old.known.fault ≡ None }
     ensures goes { TalkGoes SameRounds ear.old ear.new (L.story tunnel.old.link) (L.story tunnel.new.link) result }
     ensures stands { OnOk result (tunnel.new.known.fault ≡ None) }
-    ensures free { OnOk result (IsFree (L.story tunnel.new.link)) }
-    ensures puts { AsksNoOther (L.story tunnel.old.link) (L.story tunnel.new.link) }
+    ensures free { OnOk result (WhereTold (λ places. HasPlace (channel (entries places))) (L.story tunnel.new.link)) }
     ensures cause { IfErr result (λ fault. FailsBy fault (L.faults tunnel.old.link) (L.faults tunnel.new.link)) }
     ensures count { NeverFall (L.faults tunnel.old.link) (L.faults tunnel.new.link) }
     ensures script { L.script tunnel.new.link ≡ L.script tunnel.old.link }
@@ -49,7 +51,6 @@ fn seek<L: Link>(tunnel: &mut Tunnel<L>) -> Result<(), AssignFault>
     ensures goes { (e : HeldEar) → TalkGoes SameRounds e e (L.story tunnel.old.link) (L.story tunnel.new.link) result }
     ensures acted { OnOk result (HasActed tunnel.old.known (L.story tunnel.old.link) → HasActed tunnel.new.known (L.story tunnel.new.link)) }
     ensures stands { OnOk result (tunnel.new.known.fault ≡ None) }
-    ensures puts { AsksNoOther (L.story tunnel.old.link) (L.story tunnel.new.link) }
     ensures cause { IfErr result (λ fault. FailsBy fault (L.faults tunnel.old.link) (L.faults tunnel.new.link)) }
     ensures count { NeverFall (L.faults tunnel.old.link) (L.faults tunnel.new.link) }
     ensures script { L.script tunnel.new.link ≡ L.script tunnel.old.link }

@@ -4,7 +4,6 @@ ghost use Rattle.std.specs.Prelude.{◌≡◌, IfErr, OnOk, None, false, true};
 ghost use Rattle.line_model.specs.Moments.{moments};
 ghost use Rattle.line_model.specs.Polled.{NeverFall};
 ghost use Rattle.address_talk.specs.Ends.{FailsBy};
-ghost use Rattle.address_commission.specs.Always.{AsksSoFar, IsFree};
 ghost use Rattle.address_commission.specs.Calls.{TalkFails};
 ghost use Rattle.address_commission.specs.Listening.{Begins, IsOut, Listens, SearchedSo};
 ghost use Rattle.address_talk.specs.Rounds.{rounds};
@@ -28,15 +27,12 @@ pub fn search<R: Wait, L: Link>(
     wanted: IndAddr,
 ) -> Result<(), AssignFault>
     requires stands { tunnel.old.known.fault ≡ None }
-    requires free { IsFree (L.story tunnel.old.link) }
     requires begins { WhereTold Begins (L.story tunnel.old.link) }
     requires listens { WhereClock (Listens wanted ear.old) (L.story tunnel.old.link) }
     ensures searched { OnOk result (WhereTold (λ places. SearchedSo wanted ear.new.heard (rounds (moments places))) (L.story tunnel.new.link)) }
     ensures out { OnOk result (WhereClock (IsOut wanted ear.new) (L.story tunnel.new.link)) }
     ensures fails { TalkFails wanted (L.story tunnel.new.link) result }
     ensures stands { OnOk result (tunnel.new.known.fault ≡ None) }
-    ensures free { OnOk result (IsFree (L.story tunnel.new.link)) }
-    ensures puts { AsksSoFar wanted (L.story tunnel.old.link) → AsksSoFar wanted (L.story tunnel.new.link) }
     ensures cause { IfErr result (λ fault. FailsBy fault (L.faults tunnel.old.link) (L.faults tunnel.new.link)) }
     ensures count { NeverFall (L.faults tunnel.old.link) (L.faults tunnel.new.link) }
     ensures script { L.script tunnel.new.link ≡ L.script tunnel.old.link }

@@ -1,13 +1,10 @@
 //! The talk by which an address is given.
 
 ghost use Rattle.std.specs.Prelude.{◌≡◌, IfErr, IfOk, OnOk, None, Some};
-ghost use Rattle.line_model.specs.Moments.{moments};
 ghost use Rattle.line_model.specs.Polled.{NeverFall};
 ghost use Rattle.address_talk.specs.Ends.{AnsweredBy, FailsBy};
-ghost use Rattle.address_commission.specs.Always.{AsksSoFar, IsFree};
 ghost use Rattle.address_commission.specs.Calls.{TalkFails};
-ghost use Rattle.address_commission.specs.Listening.{Begins, FoundSo, IsOut, Listens, SureSo, TriedBy};
-ghost use Rattle.address_talk.specs.Rounds.{rounds};
+ghost use Rattle.address_commission.specs.Listening.{Begins, FoundSo, Listens, SureSo, TriedBy};
 ghost use Rattle.address_commission.specs.Exact.{WhereClock};
 ghost use Rattle.tunnel_link.specs.Rights.{WhereTold};
 
@@ -29,13 +26,11 @@ pub fn give<R: Wait, L: Link>(
     wanted: IndAddr,
 ) -> Result<Assigned, AssignFault>
     requires stands { tunnel.old.known.fault ≡ None }
-    requires free { IsFree (L.story tunnel.old.link) }
     requires begins { WhereTold Begins (L.story tunnel.old.link) }
     requires listens { WhereClock (Listens wanted ear.old) (L.story tunnel.old.link) }
     ensures gives { IfOk result (λ assigned. WhereClock (AnsweredBy wanted assigned) (L.story tunnel.new.link)) }
     ensures fails { TalkFails wanted (L.story tunnel.new.link) result }
     ensures stands { OnOk result (tunnel.new.known.fault ≡ None) }
-    ensures puts { AsksSoFar wanted (L.story tunnel.old.link) → AsksSoFar wanted (L.story tunnel.new.link) }
     ensures cause { IfErr result (λ fault. FailsBy fault (L.faults tunnel.old.link) (L.faults tunnel.new.link)) }
     ensures count { NeverFall (L.faults tunnel.old.link) (L.faults tunnel.new.link) }
     ensures script { L.script tunnel.new.link ≡ L.script tunnel.old.link }

@@ -5,7 +5,6 @@ ghost use Rattle.line_model.specs.Moments.{moments};
 ghost use Rattle.line_model.specs.Polled.{NeverFall};
 ghost use Rattle.line_model.specs.Waiting.{longest_poll};
 ghost use Rattle.address_talk.specs.Ends.{FailsBy};
-ghost use Rattle.address_commission.specs.Always.{AsksNoOther, IsFree};
 ghost use Rattle.address_commission.specs.Calls.{TalkGoes};
 ghost use Rattle.address_talk.specs.Rounds.{SameRounds, rounds};
 ghost use Rattle.address_commission.specs.Listening.{HasWaited, ListensFor};
@@ -30,8 +29,6 @@ pub fn wait_out<R: Wait, L: Link>(
     ensures goes { TalkGoes SameRounds ear.old ear.new (L.story tunnel.old.link) (L.story tunnel.new.link) result }
     ensures waited { OnOk result (WhereTold (HasWaited quiet_ms ear.new) (L.story tunnel.new.link)) }
     ensures stands { OnOk result (tunnel.new.known.fault ≡ None) }
-    ensures free { OnOk result (IsFree (L.story tunnel.new.link)) }
-    ensures puts { AsksNoOther (L.story tunnel.old.link) (L.story tunnel.new.link) }
     ensures cause { IfErr result (λ fault. FailsBy fault (L.faults tunnel.old.link) (L.faults tunnel.new.link)) }
     ensures count { NeverFall (L.faults tunnel.old.link) (L.faults tunnel.new.link) }
     ensures script { L.script tunnel.new.link ≡ L.script tunnel.old.link }
@@ -51,7 +48,6 @@ pub fn wait_out<R: Wait, L: Link>(
 fn has_waited<L: Link>(tunnel: &Tunnel<L>, ear: &Ear, quiet_ms: u32) -> bool
     requires stands { tunnel.now.known.fault ≡ None }
     ensures waited { result ≡ true → WhereTold (HasWaited quiet_ms ear.now) (L.story tunnel.now.link) }
-    ensures free { result ≡ true → IsFree (L.story tunnel.now.link) }
     ensures waits { result ≡ false → WhereTold (λ places. ¬ HasWaited quiet_ms ear.now places) (L.story tunnel.now.link) }
 {
     let has_place = tunnel.has_place();

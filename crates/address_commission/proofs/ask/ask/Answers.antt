@@ -27,6 +27,3 @@ returns-clause-out g c =
 pub wait_out-requires-clause-for_it : goal.wait_out-requires-clause-for_it
 wait_out-requires-clause-for_it g c =
     subst (λ n. WhereTold (λ places. ListensFor n (rounds (moments places))) (g.L.Link.story c.put.new.tunnel.link)) (sym c.quiet_after.ensures) (listens_for c.args.wanted c.args.asked _ _ (c.in_ok-put.ensures.goes.moves c.requires.listens))
-
-pub returns-clause-puts : goal.returns-clause-puts
-returns-clause-puts g c = λ asks. c.wait_out.ensures.puts c.args.wanted (c.put.ensures.puts asks)

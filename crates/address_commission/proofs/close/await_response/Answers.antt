@@ -5,7 +5,6 @@ use Rattle.tunnel_link.specs.Alone.{EndsNone}
 use Rattle.tunnel_link.proofs.Alone.{both_each, none_each}
 use Rattle.tunnel_link.proofs.Stories.{goes_again, goes_same}
 use Rattle.address_commission.specs.Calls.{LeavesSince}
-use Rattle.address_commission.proofs.Asking.{asks_same, asks_then}
 use Rattle.address_commission.proofs.Closing.{closes_on, closes_same}
 use Rattle.address_commission.proofs.Leaving.{paces_then, paces_same, waited}
 use Rattle.address_commission.proofs.close.await_response.Goals as goal
@@ -17,7 +16,6 @@ loop-init g c = record {
   closes = λ wanted. closes_same wanted _;
   paces = paces_same _;
   awaits = λ talk began l. l;
-  puts = asks_same _;
   stands = c.requires.stands;
   grows = goes_same _;
   alone = none_each EndsNone _;
@@ -69,16 +67,9 @@ loop-preserved g c = record {
       subst (λ n. LeavesSince n talk (clock_of (g.L.Link.story c.waits.new.tunnel.link)) places) (sym (c.saturating_sub-left.ensures ∙ ap (λ k. c.loop.left - k) c.got_one.ensures))
       ((c.in_ok-came.ensures.awaits c.loop.left talk c.now.result c.now.ensures.newest (omega (arith, is, c.saturating_sub-passed.ensures, c.if-passed-ge-LEAVING_MS.false)) (omega (arith, c.if-left-eq0.false)) (c.loop.invariant.awaits talk is l) places p).0
       (c.stays.ensures.stays c.if-not-stays.false));
-  puts = asks_then _ _ _ c.loop.invariant.puts c.waits.ensures.puts;
   stands = c.in_ok-came.ensures.stands;
   grows = goes_again _ _ _ c.loop.invariant.grows c.waits.ensures.grows;
   alone = both_each EndsNone _ _ _ c.loop.invariant.grows c.waits.ensures.grows c.loop.invariant.alone c.waits.ensures.alone;
   count = fall_never (g.L.Link.faults c.args.tunnel.now.link) (g.L.Link.faults c.loop.tunnel.link) (g.L.Link.faults c.waits.new.tunnel.link) c.loop.invariant.count c.waits.ensures.count;
   script = c.waits.ensures.script ∙ c.loop.invariant.script;
 }
-
-pub returns-in_err-came-clause-puts : goal.returns-in_err-came-clause-puts
-returns-in_err-came-clause-puts g c = asks_then _ _ _ c.loop.invariant.puts c.waits.ensures.puts
-
-pub returns-then-not-stays-clause-puts : goal.returns-then-not-stays-clause-puts
-returns-then-not-stays-clause-puts g c = asks_then _ _ _ c.loop.invariant.puts c.waits.ensures.puts

@@ -6,7 +6,6 @@ use Rattle.line_model.specs.Record.{Placed, entries}
 use Rattle.tunnel_link.specs.Adds.{Growing}
 use Rattle.tunnel_link.specs.Alone.{Each, EndsNone}
 use Rattle.tunnel_link.specs.Goes.{GoesOn}
-use Rattle.address_commission.specs.Always.{AsksNoOther}
 use Rattle.address_commission.specs.Going.{Going, GoingExact}
 use Rattle.address_commission.specs.Calls.{ClosesSo, LeavesSince, PaceKept}
 use Rattle.address_commission.specs.Exact.{WhereClock}
@@ -20,7 +19,6 @@ invariant-loop g l = record {
   closes : (wanted : Address) → Going (ClosesSo wanted) (g.L.Link.story l.fn.tunnel.link) (g.L.Link.story l.tunnel.link);
   paces : GoingExact PaceKept (g.L.Link.story l.fn.tunnel.link) (g.L.Link.story l.tunnel.link);
   awaits : (talk : List Placed) → newest_time (entries talk) ≡ l.fn.began → WhereClock (LeavesSince 64 talk) (g.L.Link.story l.fn.tunnel.link) → WhereClock (LeavesSince l.left talk) (g.L.Link.story l.tunnel.link);
-  puts : AsksNoOther (g.L.Link.story l.fn.tunnel.link) (g.L.Link.story l.tunnel.link);
   stands : l.tunnel.known.fault ≡ None;
   grows : GoesOn (g.L.Link.story l.fn.tunnel.link) (g.L.Link.story l.tunnel.link);
   alone : Growing (Each EndsNone) (g.L.Link.story l.fn.tunnel.link) (g.L.Link.story l.tunnel.link);

@@ -1,4 +1,3 @@
-use Rattle.address_commission.proofs.Asking.{asks_then, leave_asks}
 use Rattle.address_commission.proofs.Calls.{told_ok}
 use Rattle.address_commission.proofs.Closing.{closes_on, leave_closes, leaves_so}
 use Rattle.address_commission.proofs.Leaving.{leave_kept, paces_then}
@@ -20,9 +19,3 @@ returns-in_err-told-clause-closes g c wanted = leave_closes c.leave-left.result 
 
 pub returns-in_err-told-clause-paces : goal.returns-in_err-told-clause-paces
 returns-in_err-told-clause-paces g c = leave_kept _ _ c.leave-left.ensures.grows c.leave-left.ensures.alone c.leave-left.ensures.timeless c.requires.stays
-
-pub returns-clause-puts : goal.returns-clause-puts
-returns-clause-puts g c = asks_then _ _ _ (leave_asks c.leave-left.result _ _ c.leave-left.ensures.grows c.leave-left.ensures.adds) c.await_response.ensures.puts
-
-pub returns-in_err-told-clause-puts : goal.returns-in_err-told-clause-puts
-returns-in_err-told-clause-puts g c = leave_asks c.leave-left.result _ _ c.leave-left.ensures.grows c.leave-left.ensures.adds

@@ -3,7 +3,6 @@ use Rattle.tunnel_link.specs.Adds.{Acts, Growing, HasActed}
 use Rattle.tunnel_link.specs.Alone.{EndsNone}
 use Rattle.tunnel_link.proofs.Alone.{both_each}
 use Rattle.tunnel_link.proofs.Stories.{goes_again}
-use Rattle.address_commission.proofs.Asking.{act_asks, asks_then, poll_asks}
 use Rattle.address_commission.proofs.Calls.{told_ok}
 use Rattle.address_commission.proofs.Closing.{act_closes, closes_on, poll_closes}
 use Rattle.address_commission.proofs.Pacing.{ends_none_of}
@@ -41,9 +40,3 @@ returns-clause-alone g c = both_each EndsNone _ _ _ c.act-acted.ensures.grows c.
 
 pub returns-clause-fails : goal.returns-clause-fails
 returns-clause-fails g c = told_causes c.told-2.result _ c.told-2.ensures.cause
-
-pub returns-clause-puts : goal.returns-clause-puts
-returns-clause-puts g c = asks_then _ _ _ (act_asks c.act-acted.result _ _ c.act-acted.ensures.grows c.act-acted.ensures.adds) (poll_asks c.poll-polled.result _ _ c.poll-polled.ensures.grows c.poll-polled.ensures.adds)
-
-pub returns-in_err-told-clause-puts : goal.returns-in_err-told-clause-puts
-returns-in_err-told-clause-puts g c = act_asks c.act-acted.result _ _ c.act-acted.ensures.grows c.act-acted.ensures.adds

@@ -1,5 +1,4 @@
-use Rattle.address_commission.proofs.Asking.{keeps_channel, puts_only}
-use Rattle.address_commission.proofs.Ends.{units_determined, units_kept}
+use Rattle.address_commission.proofs.Ends.{keeps_channel, puts_only, units_determined, units_kept}
 use Rattle.address_commission.proofs.giving.assign.Goals as goal
 
 pub returns-clause-units : goal.returns-clause-units
@@ -19,4 +18,4 @@ pub returns-clause-channel : goal.returns-clause-channel
 returns-clause-channel g c = rw c.end-link.ensures (keeps_channel c.talk-result.new.tunnel.known (g.L.Link.story c.talk-result.new.tunnel.link) c.keeps.ensures.record)
 
 pub returns-clause-puts : goal.returns-clause-puts
-returns-clause-puts g c = rw c.end-link.ensures (puts_only c.args.wanted c.talk-result.new.tunnel.known (g.L.Link.story c.talk-result.new.tunnel.link) c.keeps.ensures.record c.talk-result.ensures.puts (c.requests_are_those_that_were_put.ensures c.args.wanted))
+returns-clause-puts g c = rw c.end-link.ensures (puts_only c.args.wanted c.talk-result.result c.talk-result.new.tunnel.known (g.L.Link.story c.talk-result.new.tunnel.link) c.talk-result.ensures.ends c.keeps.ensures.record (c.requests_are_those_that_were_put.ensures c.args.wanted))

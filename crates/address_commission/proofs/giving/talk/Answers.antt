@@ -1,6 +1,5 @@
 use Rattle.std.proofs.Common.{arith, subst, sym}
 use Rattle.address_talk.specs.Ends.{EndsSo}
-use Rattle.address_commission.proofs.Asking.{new_asks}
 use Rattle.address_commission.proofs.Calls.{handed_on}
 use Rattle.address_commission.proofs.Closing.{answered_at, closing_fails, left_so, rose_from}
 use Rattle.address_commission.proofs.Ends.{fails_before, new_listens, open_begins}
@@ -40,15 +39,3 @@ close-requires-clause-kept g c places p = (c.in_ok-assigned.ensures.gives places
 
 pub close-requires-clause-stays : goal.close-requires-clause-stays
 close-requires-clause-stays g c places p = (c.in_ok-assigned.ensures.gives places p).stands.stays_open
-
-pub returns-in_err-open-clause-puts : goal.returns-in_err-open-clause-puts
-returns-in_err-open-clause-puts g c = c.open.ensures.puts c.args.wanted (new_asks c.args.wanted _ c.requires.new)
-
-pub returns-in_err-assigned-clause-puts : goal.returns-in_err-assigned-clause-puts
-returns-in_err-assigned-clause-puts g c = c.give.ensures.puts (c.open.ensures.puts c.args.wanted (new_asks c.args.wanted _ c.requires.new))
-
-pub returns-clause-puts : goal.returns-clause-puts
-returns-clause-puts g c = c.close.ensures.puts c.args.wanted (c.give.ensures.puts (c.open.ensures.puts c.args.wanted (new_asks c.args.wanted _ c.requires.new)))
-
-pub returns-in_err-close-clause-puts : goal.returns-in_err-close-clause-puts
-returns-in_err-close-clause-puts g c = c.close.ensures.puts c.args.wanted (c.give.ensures.puts (c.open.ensures.puts c.args.wanted (new_asks c.args.wanted _ c.requires.new)))

@@ -2,7 +2,6 @@ use Rattle.std.proofs.Common.{subst, sym, ◌∙◌, Ok}
 use Rattle.line_model.proofs.Counted.{fall_never}
 use Rattle.address_commission.specs.Calls.{TalkGoes}
 use Rattle.address_talk.specs.Rounds.{SameRounds}
-use Rattle.address_commission.proofs.Asking.{asks_then}
 use Rattle.address_commission.proofs.Calls.{handed_on, goes_then, none_awaited}
 use Rattle.address_commission.proofs.Pacing.{not_both}
 use Rattle.address_commission.proofs.open.open.Goals as goal
@@ -29,7 +28,6 @@ loop-preserved g c = record {
   finite = tt;
   goes = goes_then tt c.args.ear.now c.loop.ear c.poll.new.ear _ _ _ _
       (goes_then tt c.args.ear.now c.loop.ear c.loop.ear _ _ _ _ (goes_then tt c.args.ear.now c.loop.ear c.loop.ear _ _ _ _ c.loop.invariant.goes (c.in_ok-act.ensures.goes c.loop.ear)) (c.in_ok-seek.ensures.goes c.loop.ear)) c.in_ok-poll.ensures.goes;
-  puts = asks_then _ _ _ (asks_then _ _ _ (asks_then _ _ _ c.loop.invariant.puts c.act.ensures.puts) c.seek.ensures.puts) c.poll.ensures.puts;
   stands = c.in_ok-poll.ensures.stands;
   count = fall_never (g.L.Link.faults c.args.tunnel.now.link) (g.L.Link.faults c.seek.new.tunnel.link) (g.L.Link.faults c.poll.new.tunnel.link)
       (fall_never (g.L.Link.faults c.args.tunnel.now.link) (g.L.Link.faults c.act.new.tunnel.link) (g.L.Link.faults c.seek.new.tunnel.link) (fall_never (g.L.Link.faults c.args.tunnel.now.link) (g.L.Link.faults c.loop.tunnel.link) (g.L.Link.faults c.act.new.tunnel.link) c.loop.invariant.count c.act.ensures.count) c.seek.ensures.count)
@@ -44,15 +42,3 @@ poll-requires-clause-awaits g c = λ wanted listens.
 pub returns-then-has_place-clause-goes : goal.returns-then-has_place-clause-goes
 returns-then-has_place-clause-goes g c =
     goes_then tt c.args.ear.now c.loop.ear c.loop.ear _ _ _ (Ok tt) (goes_then tt c.args.ear.now c.loop.ear c.loop.ear _ _ _ (Ok tt) c.loop.invariant.goes (c.in_ok-act.ensures.goes c.loop.ear)) (c.in_ok-seek.ensures.goes c.loop.ear)
-
-pub returns-in_err-act-clause-puts : goal.returns-in_err-act-clause-puts
-returns-in_err-act-clause-puts g c = asks_then _ _ _ c.loop.invariant.puts c.act.ensures.puts
-
-pub returns-in_err-seek-clause-puts : goal.returns-in_err-seek-clause-puts
-returns-in_err-seek-clause-puts g c = asks_then _ _ _ (asks_then _ _ _ c.loop.invariant.puts c.act.ensures.puts) c.seek.ensures.puts
-
-pub returns-then-has_place-clause-puts : goal.returns-then-has_place-clause-puts
-returns-then-has_place-clause-puts g c = asks_then _ _ _ (asks_then _ _ _ c.loop.invariant.puts c.act.ensures.puts) c.seek.ensures.puts
-
-pub returns-in_err-poll-clause-puts : goal.returns-in_err-poll-clause-puts
-returns-in_err-poll-clause-puts g c = asks_then _ _ _ (asks_then _ _ _ (asks_then _ _ _ c.loop.invariant.puts c.act.ensures.puts) c.seek.ensures.puts) c.poll.ensures.puts

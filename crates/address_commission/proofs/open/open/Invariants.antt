@@ -1,5 +1,4 @@
 use Rattle.std.proofs.Common.{◌≡◌, None, Ok}
-use Rattle.address_commission.specs.Always.{AsksNoOther}
 use Rattle.address_commission.specs.Calls.{TalkGoes}
 use Rattle.line_model.specs.Polled.{NeverFall}
 use Rattle.address_talk.specs.Rounds.{SameRounds}
@@ -11,7 +10,6 @@ invariant-loop g l = record {
   next : (goal.iterator-loop g).can_next l.iterator';
   finite : (goal.iterator-loop g).is_finite l.iterator';
   goes : TalkGoes {X = Unit {0}} SameRounds l.fn.ear l.ear (g.L.Link.story l.fn.tunnel.link) (g.L.Link.story l.tunnel.link) (Ok tt);
-  puts : AsksNoOther (g.L.Link.story l.fn.tunnel.link) (g.L.Link.story l.tunnel.link);
   stands : l.tunnel.known.fault ≡ None;
   count : NeverFall (g.L.Link.faults l.fn.tunnel.link) (g.L.Link.faults l.tunnel.link);
   script : g.L.Link.script l.tunnel.link ≡ g.L.Link.script l.fn.tunnel.link;

@@ -2,7 +2,6 @@ use Rattle.std.proofs.Common.{subst, sym}
 use Rattle.tunnel_link.specs.Adds.{Growing, Seeks}
 use Rattle.address_talk.specs.Rounds.{SameRounds}
 use Rattle.address_commission.specs.Calls.{TalkGoes}
-use Rattle.address_commission.proofs.Asking.{seek_asks}
 use Rattle.address_commission.proofs.Calls.{handed_on, told_ok, told_failed, paced_so_far, stays_open_on, seek_talks, seek_goes}
 use Rattle.address_commission.proofs.open.seek.Goals as goal
 
@@ -16,9 +15,3 @@ pub returns-clause-goes : goal.returns-clause-goes
 returns-clause-goes g c e =
     seek_goes c.in_ok-told.field-0 e _ _ c.seek-sought.ensures.grows
     (subst (λ r. Growing (Seeks r) (g.L.Link.story c.args.tunnel.now.link) (g.L.Link.story c.seek-sought.new.self.link)) (told_ok c.seek-sought.result c.in_ok-told.field-0 c.in_ok-told.ensures.same) c.seek-sought.ensures.adds) c.seek-sought.ensures.timeless c.seek-sought.ensures.alone
-
-pub returns-clause-puts : goal.returns-clause-puts
-returns-clause-puts g c = seek_asks c.seek-sought.result _ _ c.seek-sought.ensures.grows c.seek-sought.ensures.adds
-
-pub returns-in_err-told-clause-puts : goal.returns-in_err-told-clause-puts
-returns-in_err-told-clause-puts g c = seek_asks c.seek-sought.result _ _ c.seek-sought.ensures.grows c.seek-sought.ensures.adds

@@ -30,6 +30,3 @@ returns-clause-searched g c =
     third_searched c.args.wanted c.ask-2.new.ear c.ask-3.new.ear _ _ c.ask-3.result
     (next_read c.args.wanted 0 c.ask.new.ear _ _ (first_read c.args.wanted _ _ c.requires.begins c.in_ok-ask.ensures.moves) c.in_ok-ask.ensures.out (c.is_somebody.ensures.nobody c.if-is_somebody.false) c.in_ok-ask-2.ensures.moves)
     c.in_ok-ask-2.ensures.out (c.is_somebody-2.ensures.nobody c.if-is_somebody-2.false) c.ask-3.ensures.moves c.ask-3.ensures.out
-
-pub returns-clause-puts : goal.returns-clause-puts
-returns-clause-puts g c = λ asks. c.ask-3.ensures.puts (c.ask-2.ensures.puts (c.ask.ensures.puts asks))

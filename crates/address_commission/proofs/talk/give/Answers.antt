@@ -31,18 +31,3 @@ ask-requires-4-clause-turn g c = last_turn c.args.wanted c.ask-3.new.ear _ (has_
 
 pub returns-clause-gives : goal.returns-clause-gives
 returns-clause-gives g c = sure_gives c.args.wanted c.sure.result c.ask-4.new.ear _ _ (has_written c.args.wanted _ _ c.in_ok-ask-3.ensures.moves) c.in_ok-ask-4.ensures.moves c.in_ok-ask-4.ensures.out c.sure.ensures
-
-pub returns-in_err-ask-2-clause-puts : goal.returns-in_err-ask-2-clause-puts
-returns-in_err-ask-2-clause-puts g c = λ asks. c.ask-2.ensures.puts (c.ask.ensures.puts (c.search.ensures.puts asks))
-
-pub returns-in-Some-tried-clause-puts : goal.returns-in-Some-tried-clause-puts
-returns-in-Some-tried-clause-puts g c = λ asks. c.ask-2.ensures.puts (c.ask.ensures.puts (c.search.ensures.puts asks))
-
-pub returns-in_err-ask-3-clause-puts : goal.returns-in_err-ask-3-clause-puts
-returns-in_err-ask-3-clause-puts g c = λ asks. c.ask-3.ensures.puts (c.ask-2.ensures.puts (c.ask.ensures.puts (c.search.ensures.puts asks)))
-
-pub returns-in_err-ask-4-clause-puts : goal.returns-in_err-ask-4-clause-puts
-returns-in_err-ask-4-clause-puts g c = λ asks. c.ask-4.ensures.puts (c.ask-3.ensures.puts (c.ask-2.ensures.puts (c.ask.ensures.puts (c.search.ensures.puts asks))))
-
-pub returns-clause-puts : goal.returns-clause-puts
-returns-clause-puts g c = λ asks. c.ask-4.ensures.puts (c.ask-3.ensures.puts (c.ask-2.ensures.puts (c.ask.ensures.puts (c.search.ensures.puts asks))))

@@ -2,7 +2,6 @@ use Rattle.std.proofs.Common.{subst, sym}
 use Rattle.tunnel_link.specs.Adds.{Growing, Acts}
 use Rattle.address_talk.specs.Rounds.{SameRounds}
 use Rattle.address_commission.specs.Calls.{TalkGoes}
-use Rattle.address_commission.proofs.Asking.{act_asks}
 use Rattle.address_commission.proofs.Calls.{handed_on, told_ok, told_failed, paced_so_far, stays_open_on, act_talks, act_goes}
 use Rattle.address_commission.proofs.Closing.{act_closes, goes_same_rounds}
 use Rattle.address_commission.proofs.Pacing.{ends_none_of}
@@ -24,9 +23,3 @@ returns-clause-same g c = goes_same_rounds _ _ (λ wanted. act_closes c.act-acte
 
 pub returns-in_err-told-clause-same : goal.returns-in_err-told-clause-same
 returns-in_err-told-clause-same g c = goes_same_rounds _ _ (λ wanted. act_closes c.act-acted.result wanted _ _ c.act-acted.ensures.grows c.act-acted.ensures.adds)
-
-pub returns-clause-puts : goal.returns-clause-puts
-returns-clause-puts g c = act_asks c.act-acted.result _ _ c.act-acted.ensures.grows c.act-acted.ensures.adds
-
-pub returns-in_err-told-clause-puts : goal.returns-in_err-told-clause-puts
-returns-in_err-told-clause-puts g c = act_asks c.act-acted.result _ _ c.act-acted.ensures.grows c.act-acted.ensures.adds

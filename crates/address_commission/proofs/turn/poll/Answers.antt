@@ -2,7 +2,6 @@ use Rattle.std.proofs.Common.{subst, sym, ◌∙◌}
 use Rattle.tunnel_link.specs.Adds.{Growing, PollAdds}
 use Rattle.address_talk.specs.Rounds.{SameRounds}
 use Rattle.address_commission.specs.Calls.{TalkGoes}
-use Rattle.address_commission.proofs.Asking.{poll_asks}
 use Rattle.address_commission.proofs.Calls.{handed_on, told_ok, told_failed, stays_open_on, poll_until, poll_talks, poll_ends}
 use Rattle.address_commission.proofs.Closing.{poll_closes, goes_same_rounds}
 use Rattle.address_commission.proofs.Pacing.{ends_none_of}
@@ -25,9 +24,3 @@ returns-clause-same g c = goes_same_rounds _ _ (λ wanted. poll_closes c.poll-po
 
 pub returns-in_err-came-clause-same : goal.returns-in_err-came-clause-same
 returns-in_err-came-clause-same g c = goes_same_rounds _ _ (λ wanted. poll_closes c.poll-polled.result wanted _ _ c.poll-polled.ensures.grows c.poll-polled.ensures.adds)
-
-pub returns-clause-puts : goal.returns-clause-puts
-returns-clause-puts g c = poll_asks c.poll-polled.result _ _ c.poll-polled.ensures.grows c.poll-polled.ensures.adds
-
-pub returns-in_err-came-clause-puts : goal.returns-in_err-came-clause-puts
-returns-in_err-came-clause-puts g c = poll_asks c.poll-polled.result _ _ c.poll-polled.ensures.grows c.poll-polled.ensures.adds

@@ -2,7 +2,6 @@ use Rattle.std.proofs.Common.{◌∙◌, subst, sym, Ok}
 use Rattle.line_model.proofs.Counted.{fall_never}
 use Rattle.address_commission.specs.Calls.{TalkGoes}
 use Rattle.address_talk.specs.Rounds.{SameRounds}
-use Rattle.address_commission.proofs.Asking.{asks_then}
 use Rattle.address_commission.proofs.Asks.{awaits_for, still_listens_for}
 use Rattle.address_commission.proofs.Calls.{goes_then, handed_on}
 use Rattle.address_commission.proofs.wait.wait_out.Goals as goal
@@ -30,7 +29,6 @@ loop-preserved g c = record {
   finite = tt;
   goes = goes_then tt c.args.ear.now c.loop.ear c.poll.new.ear _ _ _ _ (goes_then tt c.args.ear.now c.loop.ear c.loop.ear _ _ _ _ c.loop.invariant.goes (c.in_ok-act.ensures.goes c.loop.ear)) c.in_ok-poll.ensures.goes;
   for_it = still_listens_for c.args.quiet_ms _ _ c.poll.ensures.same (still_listens_for c.args.quiet_ms _ _ c.act.ensures.same c.loop.invariant.for_it);
-  puts = asks_then _ _ _ (asks_then _ _ _ c.loop.invariant.puts c.act.ensures.puts) c.poll.ensures.puts;
   stands = c.in_ok-poll.ensures.stands;
   count = fall_never (g.L.Link.faults c.args.tunnel.now.link) (g.L.Link.faults c.act.new.tunnel.link) (g.L.Link.faults c.poll.new.tunnel.link) (fall_never (g.L.Link.faults c.args.tunnel.now.link) (g.L.Link.faults c.loop.tunnel.link) (g.L.Link.faults c.act.new.tunnel.link) c.loop.invariant.count c.act.ensures.count) c.poll.ensures.count;
   script = c.poll.ensures.script ∙ c.act.ensures.script ∙ c.loop.invariant.script;
@@ -38,12 +36,3 @@ loop-preserved g c = record {
 
 pub returns-then-has_waited-clause-waited : goal.returns-then-has_waited-clause-waited
 returns-then-has_waited-clause-waited g c = c.has_waited.ensures.waited c.if-has_waited.true
-
-pub returns-in_err-act-clause-puts : goal.returns-in_err-act-clause-puts
-returns-in_err-act-clause-puts g c = asks_then _ _ _ c.loop.invariant.puts c.act.ensures.puts
-
-pub returns-then-has_waited-clause-puts : goal.returns-then-has_waited-clause-puts
-returns-then-has_waited-clause-puts g c = asks_then _ _ _ c.loop.invariant.puts c.act.ensures.puts
-
-pub returns-in_err-poll-clause-puts : goal.returns-in_err-poll-clause-puts
-returns-in_err-poll-clause-puts g c = asks_then _ _ _ (asks_then _ _ _ c.loop.invariant.puts c.act.ensures.puts) c.poll.ensures.puts
