@@ -5,7 +5,7 @@ ghost use Rattle.std.specs.List.Sorted.{IsStrictlyIncreasing};
 ghost use Rattle.knx_model.specs.declared.refusal.Why.TheVariants.{NoMemory as OutOfMemory};
 ghost use Rattle.knx_model.specs.Counts.{counts_of};
 ghost use Rattle.knx_model.specs.Rules.{first_broken, devices_of, has_device};
-ghost use Rattle.project_check.specs.Devices.{raw_of};
+ghost use Rattle.project_check.specs.Devices.{raw_of, AreDevices};
 
 use crate::counted::totals_of;
 use crate::devices::{ascending_devices, first_device};
@@ -90,61 +90,66 @@ impl<'b, 'a> Checked<'b, 'a> {
     }
 }
 
-/// The first statement that breaks a rule.
-fn first_broken(
+/// The first statement that breaks a rule, and the devices.
+fn judged(
     alloc: Global,
     catalogue: &Catalogue,
     statements: &[Statement<'_>],
-) -> Result<Option<Refused>, AllocError>
-    ensures { IfOk result (λ found. found ≡ first_broken catalogue.now statements.now) }
+) -> Result<(Option<Refused>, Vec<IndAddr>), AllocError>
+    ensures found { IfOk result (λ judged. judged.0 ≡ first_broken catalogue.now statements.now) }
+    ensures devices { IfOk result (λ judged. AreDevices judged.1.items statements.now) }
 {
+    let devices = ascending_devices(alloc, statements)?;
     let models = NamedModels::of(alloc, catalogue, statements)?;
     let gathered = Gathered::of(alloc, &models, statements)?;
     let links = sorted_links(alloc, statements)?;
     let whole = Whole::of(gathered, links);
-    first_between(alloc, &whole, statements, 0, statements.len())
+    let found = first_between(alloc, &whole, statements, 0, statements.len())?;
+    Ok((found, devices))
 }
 
-/// The same as `first_broken`, in threads.
-fn first_broken_in_threads<R: Threads + Sync>(
+/// The same as `judged`, in threads.
+fn judged_in_threads<R: Threads + Sync>(
     rt: &R,
     alloc: Global,
     catalogue: &Catalogue,
     statements: &[Statement<'_>],
-) -> Result<Option<Refused>, AllocError>
-    ensures { IfOk result (λ found. found ≡ first_broken catalogue.now statements.now) }
+) -> Result<(Option<Refused>, Vec<IndAddr>), AllocError>
+    ensures found { IfOk result (λ judged. judged.0 ≡ first_broken catalogue.now statements.now) }
+    ensures devices { IfOk result (λ judged. AreDevices judged.1.items statements.now) }
 {
     let models = NamedModels::of(alloc, catalogue, statements)?;
-    let (gathered, links) = gathered_in_threads(rt, alloc, &models, statements);
+    let (gathered, devices, links) = gathered_in_threads(rt, alloc, &models, statements);
     let gathered = gathered?;
+    let devices = devices?;
     let links = links?;
     let whole = Whole::of(gathered, links);
-    first_in_threads(rt, alloc, &whole, statements)
+    let found = first_in_threads(rt, alloc, &whole, statements)?;
+    Ok((found, devices))
 }
 
-/// The project, where the first statement that breaks a rule is known.
+/// The project, where the first statement that breaks a rule is known, and the devices are.
 fn checked_by<'b, 'a>(
-    alloc: Global,
     project: &'b Project<'a>,
     catalogue: &'b Catalogue,
-    broken: Result<Option<Refused>, AllocError>,
+    judged: Result<(Option<Refused>, Vec<IndAddr>), AllocError>,
 ) -> Result<Checked<'b, 'a>, Refused>
-    requires found { IfOk broken (λ found. found ≡ first_broken catalogue.now project.now.statements) }
+    requires found { IfOk judged (λ judged. judged.0 ≡ first_broken catalogue.now project.now.statements) }
+    requires devices { IfOk judged (λ judged. AreDevices judged.1.items project.now.statements) }
     ensures checked { IfOk result (λ c. c ≡ record { statements = project.now.statements; catalogue = catalogue.now }) }
     ensures sound { OnOk result (first_broken catalogue.now project.now.statements ≡ None) }
     ensures refused { IfErr result (λ e. e.why ≢ OutOfMemory tt → first_broken catalogue.now project.now.statements ≡ Some e) }
     ensures memory { IfErr result (λ e. e.why ≡ OutOfMemory tt → e.line ≡ 0) }
 {
-    match broken {
-        Ok(None) => match ascending_devices(alloc, project.statements.as_slice()) {
-            Ok(devices) => Ok(Checked {
+    match judged {
+        Ok((found, devices)) => match found {
+            Some(refused) => Err(refused),
+            None => Ok(Checked {
                 project,
                 catalogue,
                 devices,
             }),
-            Err(error) => Err(out_of_memory(error)),
         },
-        Ok(Some(refused)) => Err(refused),
         Err(error) => Err(out_of_memory(error)),
     }
 }
@@ -161,8 +166,8 @@ pub fn check<'b, 'a>(
     ensures refused { IfErr result (λ e. e.why ≢ OutOfMemory tt → first_broken catalogue.now project.now.statements ≡ Some e) }
     ensures memory { IfErr result (λ e. e.why ≡ OutOfMemory tt → e.line ≡ 0) }
 {
-    let broken = first_broken(alloc, catalogue, project.statements.as_slice());
-    checked_by(alloc, project, catalogue, broken)
+    let judged = judged(alloc, catalogue, project.statements.as_slice());
+    checked_by(project, catalogue, judged)
 }
 
 /// The same as `check`, where the rules are judged and the links sorted in threads.
@@ -177,8 +182,8 @@ pub fn check_in_threads<'b, 'a, R: Threads + Sync>(
     ensures refused { IfErr result (λ e. e.why ≢ OutOfMemory tt → first_broken catalogue.now project.now.statements ≡ Some e) }
     ensures memory { IfErr result (λ e. e.why ≡ OutOfMemory tt → e.line ≡ 0) }
 {
-    let broken = first_broken_in_threads(rt, alloc, catalogue, project.statements.as_slice());
-    checked_by(alloc, project, catalogue, broken)
+    let judged = judged_in_threads(rt, alloc, catalogue, project.statements.as_slice());
+    checked_by(project, catalogue, judged)
 }
 
 /// The refusal for want of memory.

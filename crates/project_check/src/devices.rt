@@ -1,9 +1,8 @@
 //! The devices of a text.
 
-ghost use Rattle.std.specs.Prelude.{◌≡◌, slice_get, IsPermutation, IfOk};
-ghost use Rattle.std.specs.List.Sorted.{IsSorted};
+ghost use Rattle.std.specs.Prelude.{◌≡◌, slice_get, IfOk};
 ghost use Rattle.knx_model.specs.Rules.{device_in, devices_of};
-ghost use Rattle.project_check.specs.Devices.{device_order};
+ghost use Rattle.project_check.specs.Devices.{AreDevices};
 
 use knx_model::{IndAddr, Statement, What};
 use std::alloc::{AllocError, Global};
@@ -33,8 +32,7 @@ pub fn ascending_devices(
     alloc: Global,
     statements: &[Statement<'_>],
 ) -> Result<Vec<IndAddr>, AllocError>
-    ensures all { IfOk result (λ devices. IsPermutation (devices_of statements.now) devices.items) }
-    ensures sorted { IfOk result (λ devices. IsSorted device_order devices.items) }
+    ensures { IfOk result (λ devices. AreDevices devices.items statements.now) }
 {
     let mut devices = devices_of(alloc, statements)?;
     devices.as_mut_slice().sort_unstable();
