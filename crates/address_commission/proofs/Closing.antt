@@ -1,14 +1,10 @@
 -- The end of the channel: no request is put.
 use Rattle.std.proofs.lemmas.List.{append_cancel_right}
-use Rattle.std.proofs.lemmas.Bool.{ltb-true, ltb-false}
-use Rattle.std.proofs.Math.Dec.{ltb}
-use Rattle.std.proofs.Common.{◌≡◌, ℕ, ◌≤◌, ◌<◌, inl, inr, List, [], ◌∷◌, ◌++◌, Bool, true, false, ◌||◌, Some, Result, Ok, Err, refl, sym, ◌∙◌, ap, subst, append_assoc, arith}
+use Rattle.std.proofs.Common.{◌≡◌, ◌⊎◌, ℕ, inl, inr, List, [], ◌∷◌, ◌++◌, Bool, true, false, ◌||◌, Some, Result, Ok, Err, refl, sym, ◌∙◌, ap, subst, append_assoc}
 use Rattle.knx_model.specs.declared.address.IndAddr.{IndAddr}
 use Rattle.line_model.specs.declared.fault.HubFault.{HubFault}
-use Rattle.line_model.specs.declared.fault.HubFault.TheVariants as hub
 use Rattle.line_model.specs.Reading.{ldata_in}
-use Rattle.knx_model.specs.Outside.{Rose}
-use Rattle.line_model.specs.declared.outside.link_counts.LinkCounts.{LinkCounts}
+use Rattle.line_model.specs.declared.outside.fault_counts.FaultCounts.{FaultCounts}
 use Rattle.line_model.specs.Asks.{HasPlace}
 use Rattle.line_model.specs.Closing.{asks_to_end, is_open}
 use Rattle.line_model.specs.Haste.{KeepsPaces}
@@ -16,6 +12,7 @@ use Rattle.line_model.specs.Record.{Placed, entries}
 use Rattle.line_model.specs.LinkStory.{Story, newest_time, places_in}
 use Rattle.line_model.specs.ClientView.{ClientChannel, Fresh, Sought, RefusedBy, Unanswered, Open, Lost, Deed, Puts, Takes, Loses, Nothing as DoesNothing, channel}
 use Rattle.line_model.specs.Moments.{Moment, moments}
+use Rattle.line_model.specs.Polled.{one_failed}
 use Rattle.line_model.specs.Signs.{Every}
 use Rattle.tunnel_link.specs.declared.came.Came.{Came}
 use Rattle.tunnel_link.specs.declared.came.Loss.{Loss}
@@ -26,18 +23,18 @@ use Rattle.tunnel_link.specs.Adds.{Growing, Acts, Leaves, PollAdds, PutsNone, On
 use Rattle.tunnel_link.specs.Alone.{Each, EndsNone, Nothing, Once, SendsOnce}
 use Rattle.tunnel_link.specs.Goes.{GoesOn}
 use Rattle.tunnel_link.specs.Paces.{TakesNoTime}
-use Rattle.tunnel_link.specs.Rights.{FailsWhere, WhereTold}
+use Rattle.tunnel_link.specs.Rights.{WhereTold}
 use Rattle.tunnel_link.proofs.Acting.{grows_then}
 use Rattle.tunnel_link.proofs.Stories.{goes_again}
 use Rattle.address_talk.specs.declared.assigned.Assigned.{Assigned}
 use Rattle.address_talk.specs.declared.assigned.AssignFault.{AssignFault}
-use Rattle.address_talk.specs.declared.assigned.AssignFault.TheVariants as fails
 use Rattle.address_talk.specs.Rounds.{Round, after_deed, rounds, has_lost, GoOn, SameRounds}
 use Rattle.address_talk.specs.Talk.{TalksRightly}
 use Rattle.address_commission.specs.Going.{Going, GoingExact}
-use Rattle.address_talk.specs.Ends.{Answered, AnsweredBy, ComesLate, EndsOnce, EndsSo, FailsBy, FailsSo, Leaves as LeavesAnswered}
-use Rattle.address_commission.specs.Calls.{ClosesSo, HasAwaited, LeavesSince, PaceKept, ToldAs, fault_of, LeavesTo}
-use Rattle.std.specs.Prelude.{IfErr, OnOk}
+use Rattle.address_talk.specs.Ends.{Answered, AnsweredBy, ComesLate, EndsOnce, EndsSo, FailsSo, Leaves as LeavesAnswered}
+use Rattle.address_commission.specs.Calls.{ClosesSo, HasAwaited, LeavesSince, PaceKept, LeavesTo}
+use Rattle.address_commission.specs.Counted.{CountsEnd}
+use Rattle.std.specs.Prelude.{OnOk}
 use Rattle.address_commission.proofs.Leaving.{awaits_after, request_left}
 use Rattle.address_commission.proofs.Calls.{before}
 use Rattle.address_commission.proofs.Folds.{nothing_rounds, one_rounds, NotPuts, PutsNo, nothing_puts, one_puts, not_puts, talks_on}
@@ -201,38 +198,6 @@ module _ (call : Result Bool HubFault) (began : ℕ) (s t u : Story) (g : GoesOn
   leaves_so asked is (Ok x) awaited = leaves_on asked is awaited
   leaves_so asked is (Err why) awaited = tt
 
--- a count that rose has risen still
-pub rose_on : (a b c : ℕ) → a ≤ b → b ≤ c → Rose a b → Rose a c
-rose_on a b c m n (inl lt) = inl (omega (arith, lt, n))
-rose_on a b c m n (inr top) = by_top (ltb b c) refl where
-  by_top : (t : Bool) → ltb b c ≡ t → Rose a c
-  by_top true e = let lt : b < c = ltb-true b c e in inl (omega (arith, m, lt))
-  by_top false e = let le : c ≤ b = ltb-false b c e in let same : c ≡ b = omega (arith, n, le) in inr (same ∙ top)
-
-pub rose_from : (a b c : ℕ) → a ≤ b → Rose b c → Rose a c
-rose_from a b c m (inl lt) = inl (omega (arith, m, lt))
-rose_from a b c m (inr top) = inr top
-
--- ---- by what was told of it
-
-same_fault : {X : Type 0} (why other : AssignFault) → (let one : Result X AssignFault = Err why in one) ≡ Err other → other ≡ why
-same_fault why other e = cc
-
-by_fault : (fault : HubFault) (old new : LinkCounts) → FailsWhere fault old new → FailsBy (fault_of fault) old new
-by_fault (hub.NoMemory want) old new h = h
-by_fault hub.LinkFailed old new h = h
-by_fault (hub.GatewayRefused three) old new h = tt
-by_fault hub.Flooded old new h = tt
-by_fault (hub.WrongLine device tunnel) old new h = tt
-
-pub fails_by : {X : Type 0} (call : Result X HubFault) (why : AssignFault) (old new : LinkCounts) → ToldAs call (Err why) → IfErr call (λ fault. FailsWhere fault old new) → FailsBy why old new
-fails_by (Ok asked) why old new told cause = absurd (cc)
-fails_by {X = X} (Err fault) why old new told cause = subst (λ (z : AssignFault). FailsBy z old new) (same_fault {X = X} why (fault_of fault) told) (by_fault fault old new cause)
-
--- a failing link is told only where its count rose
-pub failed_by : (why : AssignFault) (old new : LinkCounts) → why ≡ fails.LinkFailed → FailsBy why old new → Rose old.failed new.failed
-failed_by why old new is h = subst (λ (z : AssignFault). FailsBy z old new) is h
-
 -- ---- after an answer
 
 pub answered_at : (wanted : IndAddr) (assigned : Assigned) (s t : Story) → WhereClock (AnsweredBy wanted assigned) s → Going (ClosesSo wanted) s t → GoingExact PaceKept s t → WhereClock (Answered wanted assigned) t
@@ -255,3 +220,9 @@ closing_fails wanted assigned why s t a c k f late new p = inr (record { cause =
 
 pub left_so : (wanted : IndAddr) (assigned : Assigned) (s t : Story) → WhereClock (AnsweredBy wanted assigned) s → LeavesTo s t → WhereClock (LeavesAnswered wanted assigned) t
 left_so wanted assigned s t a l new p = let x = l new p in record { talk = x.old; answered = before (AnsweredBy wanted assigned) s t x.old x.clock a x.told; leaves = x.is }
+
+-- what the counts tell, where the talk before left them: the channel was left with the counts as they were, or one call of the link failed in that
+pub counts_end : (wanted : IndAddr) (assigned : Assigned) (old mid new : FaultCounts) (s t : Story) → mid ≡ old → WhereClock (AnsweredBy wanted assigned) s → ((new ≡ mid) × LeavesTo s t) ⊎ (new ≡ one_failed mid)
+    → CountsEnd wanted (Ok assigned) old new t
+counts_end wanted assigned old mid new s t same answered (inl left) = inl (left.0 ∙ same, left_so wanted assigned s t answered left.1)
+counts_end wanted assigned old mid new s t same answered (inr failed) = inr (failed ∙ ap one_failed same)

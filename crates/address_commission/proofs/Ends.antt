@@ -39,7 +39,7 @@ fails_before wanted why t h new p = inl (h new p)
 -- ---- what was sent
 
 pub keeps_channel : (k : Known) (story : Story) → KeepsRecord k story → WhereTold KeepsChannel story
-keeps_channel k story keeps places e = let right = (keeps places e).right in record { renews = right.renews; sends = right.sends; acknowledges = right.acknowledges; parts = right.parts }
+keeps_channel k story keeps places e = let right = (keeps places e).right in record { renews = right.renews; sends = right.sends; writes = right.writes; acknowledges = right.acknowledges; parts = right.parts }
 
 pub puts_only : (wanted : IndAddr) (result : Result Assigned AssignFault) (k : Known) (story : Story) → WhereClock (EndsSo wanted result) story → KeepsRecord k story → ((r : List Entry) → SendsRightly r → AllAskFirst wanted r → PutsOnly wanted r) → WhereTold (λ places. PutsOnly wanted (entries places)) story
 puts_only wanted result k story ends keeps law places e = law (entries places) (keeps places e).right.sends (all_first wanted places (ends_rightly wanted result (clock_of story) places (ends places e)))

@@ -1,4 +1,5 @@
 pub mod Exact
+pub mod Counted
 pub mod Going
 pub mod Listening
 pub mod Calls

@@ -1,9 +1,8 @@
 //! One request, and its wait.
 
-ghost use Rattle.std.specs.Prelude.{◌≡◌, IfErr, OnOk, None};
-ghost use Rattle.line_model.specs.Polled.{NeverFall};
+ghost use Rattle.std.specs.Prelude.{◌≡◌, OnOk, None};
 ghost use Rattle.address_commission.specs.Calls.{AsksGoes, TalkFails};
-ghost use Rattle.address_talk.specs.Ends.{FailsBy};
+ghost use Rattle.address_talk.specs.Ends.{after_step};
 ghost use Rattle.address_commission.specs.Going.{AsksOne, Going};
 ghost use Rattle.address_commission.specs.Listening.{IsOut, IsTurnTo, Listens, quiet_after};
 ghost use Rattle.address_commission.specs.Exact.{WhereClock};
@@ -38,8 +37,7 @@ pub fn ask<R: Wait, L: Link>(
     ensures fails { TalkFails wanted (L.story tunnel.new.link) result }
     ensures out { OnOk result (WhereClock (IsOut wanted ear.new) (L.story tunnel.new.link)) }
     ensures stands { OnOk result (tunnel.new.known.fault ≡ None) }
-    ensures cause { IfErr result (λ fault. FailsBy fault (L.faults tunnel.old.link) (L.faults tunnel.new.link)) }
-    ensures count { NeverFall (L.faults tunnel.old.link) (L.faults tunnel.new.link) }
+    ensures counts { L.faults tunnel.new.link ≡ after_step result (L.faults tunnel.old.link) }
     ensures script { L.script tunnel.new.link ≡ L.script tunnel.old.link }
 {
     put(tunnel, ear, wanted, asked)?;
@@ -57,8 +55,7 @@ fn put<L: Link>(
     requires turn { WhereTold (IsTurnTo wanted asked) (L.story tunnel.old.link) }
     ensures goes { AsksGoes wanted asked ear.old ear.new (L.story tunnel.old.link) (L.story tunnel.new.link) result }
     ensures stands { OnOk result (tunnel.new.known.fault ≡ None) }
-    ensures cause { IfErr result (λ fault. FailsBy fault (L.faults tunnel.old.link) (L.faults tunnel.new.link)) }
-    ensures count { NeverFall (L.faults tunnel.old.link) (L.faults tunnel.new.link) }
+    ensures counts { L.faults tunnel.new.link ≡ after_step result (L.faults tunnel.old.link) }
     ensures script { L.script tunnel.new.link ≡ L.script tunnel.old.link }
 {
     let cemi = request_of(wanted, asked);

@@ -1,21 +1,20 @@
 //! The end of the channel.
 
-ghost use Rattle.std.specs.Prelude.{◌≡◌, ◌≢◌, ◌+◌, ◌-◌, ◌<◌, ◌≤◌, ℕ, IfErr, IfOk, OnOk, None, false, true, List as Seq};
+ghost use Rattle.std.specs.Prelude.{◌≡◌, ◌≢◌, ◌⊎◌, ◌+◌, ◌-◌, ◌<◌, ◌≤◌, ℕ, IfErr, IfOk, OnOk, None, false, true, List as Seq};
 ghost use Rattle.knx_model.specs.declared.address.IndAddr.{IndAddr as Address};
-ghost use Rattle.knx_model.specs.Outside.{Rose};
 ghost use Rattle.line_model.specs.Asks.{HasPlace};
 ghost use Rattle.line_model.specs.ChannelLost.{answer_wait};
 ghost use Rattle.line_model.specs.ClientView.{channel};
 ghost use Rattle.line_model.specs.Leaves.{StaysOpen};
 ghost use Rattle.line_model.specs.LinkStory.{newest_time};
 ghost use Rattle.line_model.specs.Moments.{moments};
-ghost use Rattle.line_model.specs.Polled.{NeverFall};
+ghost use Rattle.line_model.specs.Polled.{one_failed};
 ghost use Rattle.line_model.specs.Record.{Placed, entries};
 ghost use Rattle.tunnel_link.specs.Adds.{Growing};
 ghost use Rattle.tunnel_link.specs.Alone.{Each, EndsNone};
 ghost use Rattle.tunnel_link.specs.Goes.{GoesOn};
 ghost use Rattle.address_commission.specs.Calls.{ClosesSo, HasAwaited, LeavesSince, LeavesTo, LeftOn, PaceKept, got_one};
-ghost use Rattle.address_talk.specs.Ends.{ComesLate, FailsBy, FailsSo};
+ghost use Rattle.address_talk.specs.Ends.{ComesLate, FailsSo, after_assign_fault, after_step};
 ghost use Rattle.address_commission.specs.Going.{Going, GoingExact};
 ghost use Rattle.address_talk.specs.Rounds.{has_lost};
 ghost use Rattle.address_commission.specs.Exact.{WhereClock};
@@ -40,11 +39,10 @@ pub fn close<R: Wait, L: Link>(rt: &R, tunnel: &mut Tunnel<L>) -> Result<(), Ass
     requires stays { WhereTold (λ places. StaysOpen (entries places)) (L.story tunnel.old.link) }
     ensures closes { (wanted : Address) → Going (ClosesSo wanted) (L.story tunnel.old.link) (L.story tunnel.new.link) }
     ensures paces { GoingExact PaceKept (L.story tunnel.old.link) (L.story tunnel.new.link) }
-    ensures leaves { OnOk result (¬ Rose (L.faults tunnel.old.link).failed (L.faults tunnel.new.link).failed → LeavesTo (L.story tunnel.old.link) (L.story tunnel.new.link)) }
+    ensures leaves { OnOk result (((L.faults tunnel.new.link ≡ L.faults tunnel.old.link) × LeavesTo (L.story tunnel.old.link) (L.story tunnel.new.link)) ⊎ (L.faults tunnel.new.link ≡ one_failed (L.faults tunnel.old.link))) }
     ensures fails { IfErr result (λ fault. WhereTold (FailsSo fault) (L.story tunnel.new.link)) }
     ensures late { IfErr result ComesLate }
-    ensures cause { IfErr result (λ fault. FailsBy fault (L.faults tunnel.old.link) (L.faults tunnel.new.link)) }
-    ensures count { NeverFall (L.faults tunnel.old.link) (L.faults tunnel.new.link) }
+    ensures counts { IfErr result (λ fault. L.faults tunnel.new.link ≡ after_assign_fault fault (L.faults tunnel.old.link)) }
     ensures script { L.script tunnel.new.link ≡ L.script tunnel.old.link }
 {
     match leave(rt, tunnel) {
@@ -64,8 +62,7 @@ fn leave<R: Wait, L: Link>(rt: &R, tunnel: &mut Tunnel<L>) -> Result<(), AssignF
     ensures leaves { OnOk result (LeavesTo (L.story tunnel.old.link) (L.story tunnel.new.link)) }
     ensures fails { IfErr result (λ fault. WhereTold (FailsSo fault) (L.story tunnel.new.link)) }
     ensures late { IfErr result (λ fault. fault ≢ AssignFault.LinkFailed → ComesLate fault) }
-    ensures cause { IfErr result (λ fault. FailsBy fault (L.faults tunnel.old.link) (L.faults tunnel.new.link)) }
-    ensures count { NeverFall (L.faults tunnel.old.link) (L.faults tunnel.new.link) }
+    ensures counts { L.faults tunnel.new.link ≡ after_step result (L.faults tunnel.old.link) }
     ensures script { L.script tunnel.new.link ≡ L.script tunnel.old.link }
 {
     let began = tunnel.now();
@@ -88,8 +85,7 @@ fn await_response<R: Wait, L: Link>(
     ensures alone { Growing (Each EndsNone) (L.story tunnel.old.link) (L.story tunnel.new.link) }
     ensures fails { IfErr result (λ fault. WhereTold (FailsSo fault) (L.story tunnel.new.link)) }
     ensures late { IfErr result (λ fault. fault ≢ AssignFault.LinkFailed → ComesLate fault) }
-    ensures cause { IfErr result (λ fault. FailsBy fault (L.faults tunnel.old.link) (L.faults tunnel.new.link)) }
-    ensures count { NeverFall (L.faults tunnel.old.link) (L.faults tunnel.new.link) }
+    ensures counts { L.faults tunnel.new.link ≡ after_step result (L.faults tunnel.old.link) }
     ensures script { L.script tunnel.new.link ≡ L.script tunnel.old.link }
 {
     let mut left = MOST_DATAGRAMS;
@@ -119,8 +115,7 @@ fn waits<L: Link>(tunnel: &mut Tunnel<L>, longest_ms: u32) -> Result<Came, Assig
     ensures alone { Growing (Each EndsNone) (L.story tunnel.old.link) (L.story tunnel.new.link) }
     ensures fails { IfErr result (λ fault. WhereTold (FailsSo fault) (L.story tunnel.new.link)) }
     ensures late { IfErr result (λ fault. fault ≢ AssignFault.LinkFailed → ComesLate fault) }
-    ensures cause { IfErr result (λ fault. FailsBy fault (L.faults tunnel.old.link) (L.faults tunnel.new.link)) }
-    ensures count { NeverFall (L.faults tunnel.old.link) (L.faults tunnel.new.link) }
+    ensures counts { L.faults tunnel.new.link ≡ after_step result (L.faults tunnel.old.link) }
     ensures script { L.script tunnel.new.link ≡ L.script tunnel.old.link }
 {
     let acted = tunnel.act();

@@ -1,9 +1,7 @@
 //! Giving an address.
 
-ghost use Rattle.std.specs.Prelude.{◌≡◌, IfErr, IfOk, List, None, map};
-ghost use Rattle.knx_model.specs.Outside.{Rose};
+ghost use Rattle.std.specs.Prelude.{◌≡◌, List, None, map};
 ghost use Rattle.line_model.specs.LinkStory.{IsNewLink};
-ghost use Rattle.line_model.specs.Polled.{NeverFall};
 ghost use Rattle.line_model.specs.Record.{entries};
 ghost use Rattle.address_world.specs.AddressStory.{Told};
 ghost use Rattle.address_law.specs.Calm.{AreCalm};
@@ -12,7 +10,8 @@ ghost use Rattle.address_world.specs.Shown.{shown};
 ghost use Rattle.address_world.specs.AddressWorld.{AddressEvent, AddressWorld, replay};
 ghost use Rattle.address_world.specs.Keeps.{AlwaysKeepsUnits, PutsOnly};
 ghost use Rattle.address_commission.specs.Always.{KeepsChannel};
-ghost use Rattle.address_talk.specs.Ends.{EndsSo, FailsBy, HasThreeTries, Leaves};
+ghost use Rattle.address_talk.specs.Ends.{EndsSo, HasThreeTries};
+ghost use Rattle.address_commission.specs.Counted.{CountsEnd};
 ghost use Rattle.address_commission.specs.Exact.{WhereClock};
 ghost use Rattle.tunnel_link.specs.Rights.{WhereTold};
 
@@ -36,13 +35,11 @@ pub fn assign<R: Wait, L: AddressLink>(
 ) -> (L, Result<Assigned, AssignFault>)
     requires { IsNewLink (L.story link) }
     ensures ends { WhereClock (EndsSo wanted result.1) (L.story result.0) }
-    ensures leaves { IfOk result.1 (λ assigned. ¬ Rose (L.faults link).failed (L.faults result.0).failed → WhereClock (Leaves wanted assigned) (L.story result.0)) }
     ensures channel { WhereTold KeepsChannel (L.story result.0) }
     ensures puts { WhereTold (λ places. PutsOnly wanted (entries places)) (L.story result.0) }
     ensures units { (start : AddressWorld) (events : List AddressEvent) → L.told result.0 ≡ Told start events → AlwaysKeepsUnits wanted start events }
     ensures determined { (start : AddressWorld) (events : List AddressEvent) → L.told result.0 ≡ Told start events → AreCalm start events → IsDetermined wanted (map shown start.units) (map shown (replay start events).units) result.1 }
-    ensures cause { IfErr result.1 (λ fault. FailsBy fault (L.faults link) (L.faults result.0)) }
-    ensures count { NeverFall (L.faults link) (L.faults result.0) }
+    ensures counts { CountsEnd wanted result.1 (L.faults link) (L.faults result.0) (L.story result.0) }
     ensures script { L.script result.0 ≡ L.script link }
 {
     units_keep_their_addresses();
@@ -65,10 +62,8 @@ fn talk<R: Wait, L: Link>(
     requires stands { tunnel.old.known.fault ≡ None }
     requires new { IsNewLink (L.story tunnel.old.link) }
     ensures ends { WhereClock (EndsSo wanted result) (L.story tunnel.new.link) }
-    ensures leaves { IfOk result (λ assigned. ¬ Rose (L.faults tunnel.old.link).failed (L.faults tunnel.new.link).failed → WhereClock (Leaves wanted assigned) (L.story tunnel.new.link)) }
     ensures tries { HasThreeTries result }
-    ensures cause { IfErr result (λ fault. FailsBy fault (L.faults tunnel.old.link) (L.faults tunnel.new.link)) }
-    ensures count { NeverFall (L.faults tunnel.old.link) (L.faults tunnel.new.link) }
+    ensures counts { CountsEnd wanted result (L.faults tunnel.old.link) (L.faults tunnel.new.link) (L.story tunnel.new.link) }
     ensures script { L.script tunnel.new.link ≡ L.script tunnel.old.link }
 {
     let mut ear = Ear::new();

@@ -1,13 +1,12 @@
 //! Opening the channel.
 
-ghost use Rattle.std.specs.Prelude.{◌≡◌, IfErr, OnOk, None};
+ghost use Rattle.std.specs.Prelude.{◌≡◌, OnOk, None};
 ghost use Rattle.line_model.specs.Asks.{HasPlace};
 ghost use Rattle.line_model.specs.ClientView.{channel};
-ghost use Rattle.line_model.specs.Polled.{NeverFall};
 ghost use Rattle.line_model.specs.Record.{entries};
 ghost use Rattle.tunnel_link.specs.Adds.{HasActed};
 ghost use Rattle.tunnel_link.specs.Rights.{WhereTold};
-ghost use Rattle.address_talk.specs.Ends.{FailsBy};
+ghost use Rattle.address_talk.specs.Ends.{after_step};
 ghost use Rattle.address_commission.specs.Calls.{TalkGoes};
 ghost use Rattle.address_talk.specs.Rounds.{SameRounds};
 ghost use Rattle.address_commission.specs.declared.ear.Ear.{Ear as HeldEar};
@@ -30,8 +29,7 @@ pub fn open<R: Wait, L: Link>(
     ensures goes { TalkGoes SameRounds ear.old ear.new (L.story tunnel.old.link) (L.story tunnel.new.link) result }
     ensures stands { OnOk result (tunnel.new.known.fault ≡ None) }
     ensures free { OnOk result (WhereTold (λ places. HasPlace (channel (entries places))) (L.story tunnel.new.link)) }
-    ensures cause { IfErr result (λ fault. FailsBy fault (L.faults tunnel.old.link) (L.faults tunnel.new.link)) }
-    ensures count { NeverFall (L.faults tunnel.old.link) (L.faults tunnel.new.link) }
+    ensures counts { L.faults tunnel.new.link ≡ after_step result (L.faults tunnel.old.link) }
     ensures script { L.script tunnel.new.link ≡ L.script tunnel.old.link }
 {
     for _ in rt.forever() {
@@ -51,8 +49,7 @@ fn seek<L: Link>(tunnel: &mut Tunnel<L>) -> Result<(), AssignFault>
     ensures goes { (e : HeldEar) → TalkGoes SameRounds e e (L.story tunnel.old.link) (L.story tunnel.new.link) result }
     ensures acted { OnOk result (HasActed tunnel.old.known (L.story tunnel.old.link) → HasActed tunnel.new.known (L.story tunnel.new.link)) }
     ensures stands { OnOk result (tunnel.new.known.fault ≡ None) }
-    ensures cause { IfErr result (λ fault. FailsBy fault (L.faults tunnel.old.link) (L.faults tunnel.new.link)) }
-    ensures count { NeverFall (L.faults tunnel.old.link) (L.faults tunnel.new.link) }
+    ensures counts { L.faults tunnel.new.link ≡ after_step result (L.faults tunnel.old.link) }
     ensures script { L.script tunnel.new.link ≡ L.script tunnel.old.link }
 {
     let sought = tunnel.seek();

@@ -1,9 +1,8 @@
 //! The search for the units in programming mode.
 
-ghost use Rattle.std.specs.Prelude.{◌≡◌, IfErr, OnOk, None, false, true};
+ghost use Rattle.std.specs.Prelude.{◌≡◌, OnOk, None, false, true};
 ghost use Rattle.line_model.specs.Moments.{moments};
-ghost use Rattle.line_model.specs.Polled.{NeverFall};
-ghost use Rattle.address_talk.specs.Ends.{FailsBy};
+ghost use Rattle.address_talk.specs.Ends.{after_step};
 ghost use Rattle.address_commission.specs.Calls.{TalkFails};
 ghost use Rattle.address_commission.specs.Listening.{Begins, IsOut, Listens, SearchedSo};
 ghost use Rattle.address_talk.specs.Rounds.{rounds};
@@ -33,8 +32,7 @@ pub fn search<R: Wait, L: Link>(
     ensures out { OnOk result (WhereClock (IsOut wanted ear.new) (L.story tunnel.new.link)) }
     ensures fails { TalkFails wanted (L.story tunnel.new.link) result }
     ensures stands { OnOk result (tunnel.new.known.fault ≡ None) }
-    ensures cause { IfErr result (λ fault. FailsBy fault (L.faults tunnel.old.link) (L.faults tunnel.new.link)) }
-    ensures count { NeverFall (L.faults tunnel.old.link) (L.faults tunnel.new.link) }
+    ensures counts { L.faults tunnel.new.link ≡ after_step result (L.faults tunnel.old.link) }
     ensures script { L.script tunnel.new.link ≡ L.script tunnel.old.link }
 {
     ask(rt, tunnel, ear, wanted, Asked::Read)?;

@@ -1,8 +1,7 @@
 //! The talk by which an address is given.
 
-ghost use Rattle.std.specs.Prelude.{◌≡◌, IfErr, IfOk, OnOk, None, Some};
-ghost use Rattle.line_model.specs.Polled.{NeverFall};
-ghost use Rattle.address_talk.specs.Ends.{AnsweredBy, FailsBy};
+ghost use Rattle.std.specs.Prelude.{◌≡◌, IfOk, OnOk, None, Some};
+ghost use Rattle.address_talk.specs.Ends.{AnsweredBy, after_step};
 ghost use Rattle.address_commission.specs.Calls.{TalkFails};
 ghost use Rattle.address_commission.specs.Listening.{Begins, FoundSo, Listens, SureSo, TriedBy};
 ghost use Rattle.address_commission.specs.Exact.{WhereClock};
@@ -31,8 +30,7 @@ pub fn give<R: Wait, L: Link>(
     ensures gives { IfOk result (λ assigned. WhereClock (AnsweredBy wanted assigned) (L.story tunnel.new.link)) }
     ensures fails { TalkFails wanted (L.story tunnel.new.link) result }
     ensures stands { OnOk result (tunnel.new.known.fault ≡ None) }
-    ensures cause { IfErr result (λ fault. FailsBy fault (L.faults tunnel.old.link) (L.faults tunnel.new.link)) }
-    ensures count { NeverFall (L.faults tunnel.old.link) (L.faults tunnel.new.link) }
+    ensures counts { L.faults tunnel.new.link ≡ after_step result (L.faults tunnel.old.link) }
     ensures script { L.script tunnel.new.link ≡ L.script tunnel.old.link }
 {
     search(rt, tunnel, ear, wanted)?;

@@ -1,10 +1,9 @@
 //! Waiting until a request is confirmed, and a listening is over.
 
-ghost use Rattle.std.specs.Prelude.{◌≡◌, ◌≢◌, ◌⊎◌, ◌-◌, ◌<◌, ◌≤◌, IfErr, OnOk, None, true, false};
+ghost use Rattle.std.specs.Prelude.{◌≡◌, ◌≢◌, ◌⊎◌, ◌-◌, ◌<◌, ◌≤◌, OnOk, None, true, false};
 ghost use Rattle.line_model.specs.Moments.{moments};
-ghost use Rattle.line_model.specs.Polled.{NeverFall};
 ghost use Rattle.line_model.specs.Waiting.{longest_poll};
-ghost use Rattle.address_talk.specs.Ends.{FailsBy};
+ghost use Rattle.address_talk.specs.Ends.{after_step};
 ghost use Rattle.address_commission.specs.Calls.{TalkGoes};
 ghost use Rattle.address_talk.specs.Rounds.{SameRounds, rounds};
 ghost use Rattle.address_commission.specs.Listening.{HasWaited, ListensFor};
@@ -29,8 +28,7 @@ pub fn wait_out<R: Wait, L: Link>(
     ensures goes { TalkGoes SameRounds ear.old ear.new (L.story tunnel.old.link) (L.story tunnel.new.link) result }
     ensures waited { OnOk result (WhereTold (HasWaited quiet_ms ear.new) (L.story tunnel.new.link)) }
     ensures stands { OnOk result (tunnel.new.known.fault ≡ None) }
-    ensures cause { IfErr result (λ fault. FailsBy fault (L.faults tunnel.old.link) (L.faults tunnel.new.link)) }
-    ensures count { NeverFall (L.faults tunnel.old.link) (L.faults tunnel.new.link) }
+    ensures counts { L.faults tunnel.new.link ≡ after_step result (L.faults tunnel.old.link) }
     ensures script { L.script tunnel.new.link ≡ L.script tunnel.old.link }
 {
     for _ in rt.forever() {

@@ -3,13 +3,13 @@ use Rattle.std.specs.Prelude.{◌≡◌, ◌⊎◌, ◌+◌, ◌<◌, ◌^◌, �
 use Rattle.knx_model.specs.Connection.{last_time}
 use Rattle.line_model.specs.declared.outside.link.LinkFault.{LinkFault}
 use Rattle.line_model.specs.declared.outside.link.LinkFault.TheVariants as fault
-use Rattle.line_model.specs.declared.outside.link_counts.LinkCounts.{LinkCounts}
+use Rattle.line_model.specs.declared.outside.fault_counts.FaultCounts.{FaultCounts}
 use Rattle.address_sim.specs.Told.{RunNow, time}
 use Rattle.address_sim.specs.Turns.{RunState, seen}
 
 pub record BusNow : Type 0 where
   pub run : RunNow
-  pub faults : LinkCounts
+  pub faults : FaultCounts
 
 -- before a text is loaded: the tunnel 1.1.255, and no units
 abbrev pub nothing_run : RunNow

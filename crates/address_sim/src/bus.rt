@@ -1,6 +1,6 @@
 //! The simulated bus.
 
-ghost use Rattle.std.specs.Prelude.{◌≡◌, ◌≤◌, [], IfOk, OnErr, OnOk, length, map};
+ghost use Rattle.std.specs.Prelude.{◌≡◌, [], IfOk, OnErr, OnOk, length};
 ghost use Rattle.address_world.specs.AddressLegal.{IsFresh, IsLegal};
 ghost use Rattle.address_world.specs.AddressStory.{record_of};
 ghost use Rattle.line_model.specs.Polled.{none_failed};
@@ -12,7 +12,7 @@ ghost use Rattle.address_sim.specs.Turns.{seen};
 use crate::run::{Beginning, Run};
 use address_world::{Unit, UnitScript};
 use knx_model::{IndAddr, List, NoMemory};
-use line_model::LinkCounts;
+use line_model::FaultCounts;
 use std::alloc::Global;
 use std::marker::Model;
 use tunnel_sim::DEFAULT_TUNNEL;
@@ -23,7 +23,7 @@ use tunnel_sim::DEFAULT_TUNNEL;
 pub struct AddressBus {
     pub(crate) alloc: Global,
     pub(crate) run: Option<Run>,
-    pub(crate) faults: LinkCounts,
+    pub(crate) faults: FaultCounts,
 }
 
 impl Model for AddressBus {
@@ -44,7 +44,7 @@ impl AddressBus {
         AddressBus {
             alloc,
             run: None,
-            faults: LinkCounts::none(),
+            faults: FaultCounts::none(),
         }
     }
 
@@ -59,7 +59,7 @@ impl AddressBus {
             losses: copied(self.alloc, &text.losses)?,
         };
         self.run = Some(Run::begin(self.alloc, begun)?);
-        self.faults = LinkCounts::none();
+        self.faults = FaultCounts::none();
         Ok(())
     }
 

@@ -1,7 +1,7 @@
 //! The simulated bus is driven: its run is called. A fault of a call is still to be counted.
 
 ghost use Rattle.std.specs.Prelude.{◌≡◌, OnErr, OnOk};
-ghost use Rattle.line_model.specs.Polled.{FailsWhere, NeverFall, PollsSo};
+ghost use Rattle.line_model.specs.Polled.{PollsSo, after_call};
 ghost use Rattle.address_world.specs.AddressWorld.{Send, Renew};
 ghost use Rattle.address_sim.specs.Driven.{FailsOut};
 ghost use Rattle.address_sim.specs.Told.{happened, story, time};
@@ -69,9 +69,7 @@ impl AddressBus {
         requires { FailsOut came self.old.run }
         ensures same { result ≡ came }
         ensures run { self.new.run ≡ self.old.run }
-        ensures cause { FailsWhere result self.old.faults self.new.faults }
-        ensures never_fall { NeverFall self.old.faults self.new.faults }
-        ensures still { OnOk result (self.new.faults ≡ self.old.faults) }
+        ensures counts { self.new.faults ≡ after_call result self.old.faults }
     {
         self.faults.count(came)
     }

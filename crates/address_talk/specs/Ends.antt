@@ -2,9 +2,8 @@
 -- after that the channel is ended, and no request is put. A fault comes exactly at its cause. Where the link's clock is exact the pace is kept too.
 use Rattle.std.specs.Prelude.{◌≡◌, ◌⊎◌, ℕ, suc, ◌+◌, ◌≤◌, true, false, List, [], ◌∷◌, ◌++◌, length, reverse, if◌then◌else◌, Result, Ok, Err, ◌<◌}
 use Rattle.knx_model.specs.declared.address.IndAddr.{IndAddr}
-use Rattle.knx_model.specs.Outside.{Rose}
 use Rattle.line_model.specs.declared.fault.Try.{Try}
-use Rattle.line_model.specs.declared.outside.link_counts.LinkCounts.{LinkCounts}
+use Rattle.line_model.specs.declared.outside.fault_counts.FaultCounts.{FaultCounts}
 use Rattle.line_model.specs.Asks.{HasPlace}
 use Rattle.line_model.specs.ClientView.{channel}
 use Rattle.line_model.specs.ChannelLost.{answer_wait}
@@ -14,6 +13,7 @@ use Rattle.line_model.specs.Leaves.{StaysOpen}
 use Rattle.line_model.specs.Record.{Placed, entries, is_got}
 use Rattle.line_model.specs.Waiting.{longest_poll}
 use Rattle.line_model.specs.Moments.{moments}
+use Rattle.line_model.specs.Polled.{one_failed, one_wanting}
 use Rattle.line_model.specs.Faults.{datagrams_taken, flood, tries}
 use Rattle.address_talk.specs.Rounds.{rounds, has_lost, GoesOnFrom}
 use Rattle.address_talk.specs.Pace.{PacedUntil, Paced}
@@ -126,10 +126,16 @@ EndsSo wanted (Err fault) clock places = FailsRightly wanted fault clock places 
 abbrev pub HasThreeTries : Result Assigned AssignFault → Type 0
 HasThreeTries came = (three : List Try) → came ≡ Err (GatewayRefused three) → length three ≡ 3
 
--- that the link failed, or had no memory, is told only where its count of that rose
-abbrev pub FailsBy : AssignFault → LinkCounts → LinkCounts → Type 0
-FailsBy TunnelLost old new = Unit {0}
-FailsBy LinkFailed old new = Rose old.failed new.failed
-FailsBy (GatewayRefused three) old new = Unit {0}
-FailsBy Flooded old new = Unit {0}
-FailsBy (NoMemory want) old new = Rose old.wanting new.wanting
+-- ---- the counts of the link
+
+-- after steps that ended with this fault: one of the link is its own, and there is no other
+abbrev pub after_assign_fault : AssignFault → FaultCounts → FaultCounts
+after_assign_fault TunnelLost counts = counts
+after_assign_fault LinkFailed counts = one_failed counts
+after_assign_fault (GatewayRefused three) counts = counts
+after_assign_fault Flooded counts = counts
+after_assign_fault (NoMemory want) counts = one_wanting counts
+
+abbrev pub after_step : {X : Type 0} → Result X AssignFault → FaultCounts → FaultCounts
+after_step (Ok x) counts = counts
+after_step (Err fault) counts = after_assign_fault fault counts

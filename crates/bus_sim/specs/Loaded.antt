@@ -1,13 +1,11 @@
 -- What a simulated line is seen as: its run, and how many calls of it failed or found no memory. Why a run isn't loaded: a line of the script names a device that
 -- isn't listed, and the first such line is told; or there was no memory.
-use Rattle.std.specs.Prelude.{◌≡◌, ◌⊎◌, [], Option, Some, None, Err}
+use Rattle.std.specs.Prelude.{◌≡◌, ◌⊎◌, [], Option, Some, None}
 use Rattle.knx_model.specs.declared.refusal.Refused.{Refused}
 use Rattle.knx_model.specs.declared.refusal.Why.{Why}
 use Rattle.knx_model.specs.declared.refusal.Why.TheVariants.{NoMemory}
 use Rattle.knx_model.specs.ScriptText.{first_stranger}
-use Rattle.line_model.specs.declared.outside.link.LinkFault.{LinkFault}
-use Rattle.line_model.specs.declared.outside.link_counts.LinkCounts.{LinkCounts}
-use Rattle.line_model.specs.Polled.{FailsWhere}
+use Rattle.line_model.specs.declared.outside.fault_counts.FaultCounts.{FaultCounts}
 use Rattle.bus_sim.specs.declared.beginning.Beginning.{Beginning}
 use Rattle.bus_sim.specs.declared.bus.Prepared.{Prepared}
 use Rattle.bus_sim.specs.declared.bus.Prepared.TheVariants.{Begins, Stranger}
@@ -16,7 +14,7 @@ use Rattle.bus_sim.specs.RunNow.{RunNow, RunState, seen}
 
 pub record BusNow : Type 0 where
   pub run : RunNow
-  pub faults : LinkCounts  -- how many calls of the run failed, and how many of those as a link found no memory
+  pub faults : FaultCounts  -- how many calls of the run failed and, as a link, how many found no memory
 
 -- before a run is loaded nothing has happened on a line without devices
 abbrev pub nothing_run : RunNow
@@ -25,10 +23,6 @@ nothing_run = record { begun = nothing_loaded; events = [] }
 abbrev pub bus_of : Option RunState → RunNow
 bus_of None = nothing_run
 bus_of (Some r) = seen r
-
--- a call of the link answers this fault
-abbrev pub FailsFor : LinkFault → LinkCounts → LinkCounts → Type 0
-FailsFor fault old new = FailsWhere {X = Unit {0}} (Err fault) old new
 
 -- want of memory is told of line 0; else the refusal is of the first line that names a stranger
 abbrev pub IsWant : Refused → Why → Type 0

@@ -2,15 +2,17 @@
 -- and no time passes on the line; or it is a quiet wait of 100 ms at the port, and 100 ms pass there. In each turn the line goes on until nothing but time can go on,
 -- and what a client gets, the port is given, each datagram to its own endpoint. The serving ends where a channel was made, none is open and the
 -- last ten turns were quiet, or with its last turn.
-use Rattle.std.specs.Prelude.{◌≡◌, ◌⊎◌, ℕ, ◌+◌, ◌≤◌, false, List, [], ◌∷◌, ◌++◌, Option, Some, None, slice_get}
-use Rattle.knx_model.specs.Outside.{Rose}
+use Rattle.std.specs.Prelude.{◌≡◌, ◌⊎◌, ℕ, ◌+◌, ◌≤◌, false, List, [], ◌∷◌, ◌++◌, Option, Some, None, Result, Ok, Err, slice_get}
+use Rattle.knx_model.specs.Outside.{one_more}
+use Rattle.line_model.specs.declared.outside.fault_counts.FaultCounts.{FaultCounts}
 use Rattle.line_model.specs.declared.outside.port.PortFault.{PortFault}
 use Rattle.line_model.specs.declared.outside.port.PortFault.TheVariants as fault
 use Rattle.line_model.specs.Fresh.{Settled}
 use Rattle.line_model.specs.Gateway.{Gateway}
 use Rattle.line_model.specs.Network.{Sent}
 use Rattle.line_model.specs.Owed.{is_clients}
-use Rattle.line_model.specs.PortStory.{PortItem, Took, Quiet, Gave, PortStory, Untold, Recorded}
+use Rattle.line_model.specs.Polled.{one_failed}
+use Rattle.line_model.specs.PortStory.{PortItem, Took, Quiet, Gave, PortStory, Untold, Recorded, after_port_fault}
 use Rattle.line_model.specs.Serving.{HasEnded, turns}
 use Rattle.line_model.specs.Tunnel as tunnel
 use Rattle.line_model.specs.World.{World, Event, From, Down, Pass, now, replay}
@@ -127,15 +129,28 @@ BreaksOff n old new before after = ((new ≡ old) × (after ≡ before)) ⊎ Bro
 
 -- ---- and why
 
--- memory was wanting; or the run has come to its end; or a call of the port failed, at which its count of faults rose
-abbrev pub IsCausedBy : Broken → ℕ → ℕ → RunNow → Type 0
-IsCausedBy (broken.NoMemory want) before after r = Unit {0}
-IsCausedBy broken.AtEnd before after r = IsAtEnd r
-IsCausedBy (broken.Port (fault.NoMemory want)) before after r = Unit {0}
-IsCausedBy (broken.Port fault.Failed) before after r = Rose before after
+-- the run has come to its end, where that is why
+abbrev pub StandsAt : Broken → RunNow → Type 0
+StandsAt (broken.NoMemory want) r = Unit {0}
+StandsAt broken.AtEnd r = IsAtEnd r
+StandsAt (broken.Port why) r = Unit {0}
 
--- A serving answers that it failed only where the port's count rose, or the line's did since its run has come to its end; for want of memory the
--- line's count stays, and where the port failed too.
-abbrev pub FailsAt : PortFault → ℕ → ℕ → ℕ → ℕ → RunNow → Type 0
-FailsAt (fault.NoMemory want) port port' line line' r = line' ≡ line
-FailsAt fault.Failed port port' line line' r = (Rose port port' × (line' ≡ line)) ⊎ (Rose line line' × IsAtEnd r)
+-- how many calls of the port failed, once it broke off so: one more, where one of them is why
+abbrev pub after_broken : Broken → ℕ → ℕ
+after_broken (broken.NoMemory want) count = count
+after_broken broken.AtEnd count = count
+after_broken (broken.Port why) count = after_port_fault why count
+
+abbrev pub after_turns : {X : Type 0} → Result X Broken → ℕ → ℕ
+after_turns (Ok x) count = count
+after_turns (Err why) count = after_broken why count
+
+-- A serving answers that it failed exactly where one call of the port did, or one of the line, whose run has then come to its end. Of the calls of the line those
+-- are counted, and no want of memory.
+abbrev pub FailsAt : PortFault → ℕ → ℕ → FaultCounts → FaultCounts → RunNow → Type 0
+FailsAt (fault.NoMemory want) port port' line line' r = (port' ≡ port) × (line' ≡ line)
+FailsAt fault.Failed port port' line line' r = ((port' ≡ one_more port) × (line' ≡ line)) ⊎ ((port' ≡ port) × (line' ≡ one_failed line) × IsAtEnd r)
+
+abbrev pub CountsServing : {X : Type 0} → Result X PortFault → ℕ → ℕ → FaultCounts → FaultCounts → RunNow → Type 0
+CountsServing (Ok x) port port' line line' r = (port' ≡ port) × (line' ≡ line)
+CountsServing (Err why) port port' line line' r = FailsAt why port port' line line' r

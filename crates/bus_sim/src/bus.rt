@@ -15,7 +15,7 @@ ghost use Rattle.bus_sim.specs.RunNow.{mode, script, start, time, world};
 use crate::beginning::Beginning;
 use crate::run::Run;
 use knx_model::{Image, IndAddr, NoMemory, Refused, ScriptLine, Why};
-use line_model::LinkCounts;
+use line_model::FaultCounts;
 use line_sim::Device;
 use script_text::Script;
 use std::alloc::Global;
@@ -27,7 +27,7 @@ use std::marker::Model;
 pub struct SimBus {
     pub(crate) alloc: Global,
     pub(crate) run: Option<Run>,
-    pub(crate) faults: LinkCounts,
+    pub(crate) faults: FaultCounts,
 }
 
 impl Model for SimBus {
@@ -51,7 +51,7 @@ impl SimBus {
         SimBus {
             alloc,
             run: None,
-            faults: LinkCounts::none(),
+            faults: FaultCounts::none(),
         }
     }
 
@@ -75,7 +75,7 @@ impl SimBus {
         match prepare(alloc, tunnel, devices, script.lines.as_slice()) {
             Ok(Prepared::Begins(run)) => {
                 self.run = Some(run);
-                self.faults = LinkCounts::none();
+                self.faults = FaultCounts::none();
                 Ok(())
             }
             Ok(Prepared::Stranger(refused)) => Err(refused),

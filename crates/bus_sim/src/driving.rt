@@ -1,14 +1,13 @@
 //! The simulated line is driven: its run is called, and the calls that fail are counted.
 
-ghost use Rattle.std.specs.Prelude.{◌≡◌, ◌≤◌, ◌⊎◌, ℕ, IfErr, IfOk, OnErr, OnOk};
-ghost use Rattle.knx_model.specs.Outside.{Rose};
-ghost use Rattle.line_model.specs.Polled.{NeverFall, PollsAs};
+ghost use Rattle.std.specs.Prelude.{◌≡◌, ◌⊎◌, ℕ, IfErr, IfOk, OnErr, OnOk};
+ghost use Rattle.line_model.specs.Polled.{PollsAs, after_link_fault, one_failed, one_wanting};
 ghost use Rattle.line_model.specs.World.{Send, Renew};
 ghost use Rattle.bus_sim.specs.Ended.{IsAtEnd, IsServing, StopsFor};
-ghost use Rattle.bus_sim.specs.Loaded.{FailsFor, bus_of, nothing_run};
+ghost use Rattle.bus_sim.specs.Loaded.{bus_of, nothing_run};
 ghost use Rattle.bus_sim.specs.Polls.{StopsRun};
 ghost use Rattle.bus_sim.specs.RunNow.{happened, seen, story, time};
-ghost use Rattle.bus_sim.specs.Serving.{FailsAt, IsCausedBy};
+ghost use Rattle.bus_sim.specs.Serving.{FailsAt, after_broken};
 ghost use Rattle.bus_sim.specs.declared.clients.Clients.TheVariants.{One};
 ghost use Rattle.bus_sim.specs.declared.stopped.Broken.TheVariants.{AtEnd};
 
@@ -71,8 +70,7 @@ impl SimBus {
     pub(crate) fn fault_of(&mut self, stopped: Stopped) -> LinkFault
         requires { StopsFor stopped self.old.run }
         ensures run { self.new.run ≡ self.old.run }
-        ensures count { NeverFall self.old.faults self.new.faults }
-        ensures cause { FailsFor result self.old.faults self.new.faults }
+        ensures counts { self.new.faults ≡ after_link_fault result self.old.faults }
     {
         match stopped {
             Stopped::NoMemory(want) => {
@@ -90,8 +88,7 @@ impl SimBus {
     pub(crate) fn port_fault_of(&mut self, broken: Broken) -> PortFault
         requires { broken ≡ AtEnd → IsAtEnd self.old.run }
         ensures run { self.new.run ≡ self.old.run }
-        ensures cause { (before after : ℕ) → IsCausedBy broken before after self.old.run → FailsAt result before after self.old.faults.failed self.new.faults.failed self.new.run }
-        ensures faults { self.old.faults.failed ≤ self.new.faults.failed }
+        ensures counts { (before after : ℕ) → after ≡ after_broken broken before → FailsAt result before after self.old.faults self.new.faults self.new.run }
     {
         match broken {
             Broken::NoMemory(want) => PortFault::NoMemory(want),
@@ -107,19 +104,17 @@ impl SimBus {
     fn fails(&mut self)
         requires { IsAtEnd self.old.run ⊎ IsServing self.old.run }
         ensures run { self.new.run ≡ self.old.run }
-        ensures count { NeverFall self.old.faults self.new.faults }
-        ensures rose { Rose self.old.faults.failed self.new.faults.failed }
+        ensures counts { self.new.faults ≡ one_failed self.old.faults }
     {
-        self.faults.failed = self.faults.failed.saturating_add(1);
+        self.faults.fail();
     }
 
     /// One more call found no memory.
     fn wants(&mut self)
         ensures run { self.new.run ≡ self.old.run }
-        ensures count { NeverFall self.old.faults self.new.faults }
-        ensures rose { Rose self.old.faults.wanting self.new.faults.wanting }
+        ensures counts { self.new.faults ≡ one_wanting self.old.faults }
     {
-        self.faults.wanting = self.faults.wanting.saturating_add(1);
+        self.faults.want();
     }
 }
 

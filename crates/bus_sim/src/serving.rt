@@ -1,12 +1,12 @@
 //! A run that serves clients at a port, turn by turn.
 
-ghost use Rattle.std.specs.Prelude.{◌≡◌, ◌+◌, ◌≤◌, ◌↔◌, ◌&&◌, IfErr, IfOk, IsTrue, List, OnErr, OnOk};
+ghost use Rattle.std.specs.Prelude.{◌≡◌, ◌+◌, ◌≤◌, ◌↔◌, IfErr, IfOk, IsTrue, List, OnErr, OnOk};
 ghost use Rattle.knx_model.specs.Connection.{last_time};
 ghost use Rattle.line_model.specs.PortStory.{PortItem};
 ghost use Rattle.line_model.specs.Serving.{HasEnded, quiet_turns};
 ghost use Rattle.line_model.specs.World.{now};
 ghost use Rattle.bus_sim.specs.RunNow.{script, seen, start};
-ghost use Rattle.bus_sim.specs.Serving.{BreaksOff, IsCausedBy, ServedSo, served_beginning, served_before};
+ghost use Rattle.bus_sim.specs.Serving.{BreaksOff, ServedSo, StandsAt, after_turns, served_beginning, served_before};
 ghost use Rattle.bus_sim.specs.Turned.{CountsQuiet, PlaysFor, StopsPlaying, StopsTurn, Turned};
 ghost use Rattle.bus_sim.specs.Went.{Stays, world};
 ghost use Rattle.bus_sim.specs.declared.clients.Clients.TheVariants.{Any};
@@ -40,8 +40,8 @@ impl Run {
     ) -> Result<Served, Broken>
         ensures served { IfOk result (λ served. ServedSo served turns (seen self.old) (seen self.new) (P.story port.old) (P.story port.new)) }
         ensures broken { OnErr result (BreaksOff turns (seen self.old) (seen self.new) (P.story port.old) (P.story port.new)) }
-        ensures cause { IfErr result (λ why. IsCausedBy why (P.faults port.old) (P.faults port.new) (seen self.new)) }
-        ensures count { P.faults port.old ≤ P.faults port.new }
+        ensures cause { IfErr result (λ why. StandsAt why (seen self.new)) }
+        ensures counts { P.faults port.new ≡ after_turns result (P.faults port.old) }
         ensures start { start (seen self.new) ≡ start (seen self.old) }
         ensures script { script (seen self.new) ≡ script (seen self.old) }
     {
@@ -92,8 +92,8 @@ impl Run {
         ensures turned { IfOk result (λ now_quiet. Turned quiet now_quiet self.old self.new (P.story port.old) (P.story port.new)) }
         ensures most { IfOk result (λ now_quiet. now_quiet ≤ quiet_turns) }
         ensures err { OnErr result (StopsTurn self.old self.new (P.story port.old) (P.story port.new)) }
-        ensures cause { IfErr result (λ why. IsCausedBy why (P.faults port.old) (P.faults port.new) (seen self.new)) }
-        ensures count { P.faults port.old ≤ P.faults port.new }
+        ensures cause { IfErr result (λ why. StandsAt why (seen self.new)) }
+        ensures counts { P.faults port.new ≡ after_turns result (P.faults port.old) }
     {
         let mut into = [0; 512];
         match port.take(&mut into, QUIET_MS)? {
@@ -114,8 +114,8 @@ impl Run {
         requires { self.old.begun.clients ≡ Any }
         ensures plays { OnOk result (PlaysFor wait self.old self.new (P.story port.old) (P.story port.new)) }
         ensures err { OnErr result (StopsPlaying self.old self.new (P.story port.old) (P.story port.new)) }
-        ensures cause { IfErr result (λ why. IsCausedBy why (P.faults port.old) (P.faults port.new) (seen self.new)) }
-        ensures count { P.faults port.old ≤ P.faults port.new }
+        ensures cause { IfErr result (λ why. StandsAt why (seen self.new)) }
+        ensures counts { P.faults port.new ≡ after_turns result (P.faults port.old) }
     {
         let left = self.before_end(wait);
         self.play(port, left)?;
@@ -132,8 +132,8 @@ impl Run {
         requires time { now (world self.old) + wait ≤ last_time }
         ensures plays { OnOk result (PlaysFor wait self.old self.new (P.story port.old) (P.story port.new)) }
         ensures err { OnErr result (StopsPlaying self.old self.new (P.story port.old) (P.story port.new)) }
-        ensures cause { IfErr result (λ why. IsCausedBy why (P.faults port.old) (P.faults port.new) (seen self.new)) }
-        ensures count { P.faults port.old ≤ P.faults port.new }
+        ensures cause { IfErr result (λ why. StandsAt why (seen self.new)) }
+        ensures counts { P.faults port.new ≡ after_turns result (P.faults port.old) }
     {
         let mut left = wait;
         loop {

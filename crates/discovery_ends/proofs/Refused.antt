@@ -1,20 +1,25 @@
--- What a refused call counts.
-use Rattle.std.proofs.Common.{◌≡◌, ℕ, ◌≤◌, Result, Ok, Err, rules, arith}
+-- How many calls failed, after one that was refused, or one of the port below.
+use Rattle.std.proofs.Common.{◌≡◌, ℕ, Result, Ok, Err, refl, ap, ◌∙◌, arith}
 use Rattle.line_model.specs.declared.outside.port.PortFault.{PortFault}
 use Rattle.line_model.specs.declared.outside.port.PortFault.TheVariants as fault
-use Rattle.line_model.specs.PortStory.{FailsWhere}
-use Rattle.knx_model.specs.Outside.{Rose, one_more}
+use Rattle.line_model.specs.PortStory.{after_call}
+use Rattle.knx_model.specs.Outside.{one_more}
 use Rattle.discovery_ends.specs.Answering.{faults_with, refused_for}
 
-rises : (below n : ℕ) → Rose (faults_with below n) (faults_with below (one_more n))
-rises below n = search rules
+one_refused : (below n : ℕ) → faults_with below (one_more n) ≡ one_more (faults_with below n)
+one_refused below n = omega arith
 
-pub refused_cause : {X : Type 0} (r : Result X PortFault) (why : PortFault) (below n : ℕ) → r ≡ Err why → FailsWhere r (faults_with below n) (faults_with below (refused_for why n))
-refused_cause (Ok x) why below n e = tt
-refused_cause (Err (fault.NoMemory want)) why below n e = tt
-refused_cause (Err fault.Failed) fault.Failed below n e = rises below n
-refused_cause (Err fault.Failed) (fault.NoMemory want) below n e = cc
+one_below : (below n : ℕ) → faults_with (one_more below) n ≡ one_more (faults_with below n)
+one_below below n = omega arith
 
-pub refused_count : (why : PortFault) (below n : ℕ) → faults_with below n ≤ faults_with below (refused_for why n)
-refused_count (fault.NoMemory want) below n = omega arith
-refused_count fault.Failed below n = omega arith
+pub refused_counts : {X : Type 0} (r : Result X PortFault) (why : PortFault) (below n : ℕ) → r ≡ Err why → faults_with below (refused_for why n) ≡ after_call r (faults_with below n)
+refused_counts (Ok x) why below n e = cc
+refused_counts (Err (fault.NoMemory want)) (fault.NoMemory other) below n e = refl
+refused_counts (Err (fault.NoMemory want)) fault.Failed below n e = cc
+refused_counts (Err fault.Failed) fault.Failed below n e = one_refused below n
+refused_counts (Err fault.Failed) (fault.NoMemory want) below n e = cc
+
+pub below_counts : {X : Type 0} (r : Result X PortFault) (below after n : ℕ) → after ≡ after_call r below → faults_with after n ≡ after_call r (faults_with below n)
+below_counts (Ok x) below after n e = ap (λ b. faults_with b n) e
+below_counts (Err (fault.NoMemory want)) below after n e = ap (λ b. faults_with b n) e
+below_counts (Err fault.Failed) below after n e = ap (λ b. faults_with b n) e ∙ one_below below n

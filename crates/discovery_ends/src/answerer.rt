@@ -3,7 +3,7 @@
 ghost use Rattle.std.specs.Prelude.{◌≡◌, ◌<◌, ◌≤◌, Err, IfErr, None, OnErr, OnOk, Some, length};
 ghost use Rattle.line_model.specs.declared.outside.port.PortFault.{PortFault as Fault};
 ghost use Rattle.line_model.specs.declared.outside.port.PortFault.TheVariants.{Failed as Broke};
-ghost use Rattle.line_model.specs.PortStory.{Adds, FailsWhere, Gave, GivesOrNot, TakesSo};
+ghost use Rattle.line_model.specs.PortStory.{Adds, Gave, GivesOrNot, TakesSo, after_call};
 ghost use Rattle.discovery_ends.specs.Answering.{AllAnswered, FailsFor, HasNoRequest, answer_of, answerer_story, faults_with, refused_for, shown_story};
 ghost use Rattle.discovery_ends.specs.Naming.{named_story};
 
@@ -116,8 +116,7 @@ fn answered<P: Port>(
     ensures stands { OnOk result (failed.new ≡ failed.old) }
     ensures broken { OnErr result (GivesOrNot to (answer_of about.now inquiry) (named_story port.old.own (P.story port.old.port)) (named_story port.new.own (P.story port.new.port))) }
     ensures kept { IfErr result (λ fault. failed.new ≡ Some fault) }
-    ensures cause { FailsWhere result (P.faults port.old.port) (P.faults port.new.port) }
-    ensures count { P.faults port.old.port ≤ P.faults port.new.port }
+    ensures counts { P.faults port.new.port ≡ after_call result (P.faults port.old.port) }
     ensures own { port.new.own ≡ port.old.own }
 {
     let answer = answer_of(about, inquiry);
@@ -147,8 +146,7 @@ fn taken<P: Port>(
     ensures answered { AllAnswered about.now failed.new (named_story port.new.own (P.story port.new.port)) }
     ensures broken { IfErr result (λ fault. FailsFor fault about.now failed.new (named_story port.old.own (P.story port.old.port)) (named_story port.new.own (P.story port.new.port))) }
     ensures stands { OnOk result (failed.new ≡ None) }
-    ensures cause { FailsWhere result (P.faults port.old.port) (P.faults port.new.port) }
-    ensures count { P.faults port.old.port ≤ P.faults port.new.port }
+    ensures counts { P.faults port.new.port ≡ after_call result (P.faults port.old.port) }
     ensures own { port.new.own ≡ port.old.own }
 {
     let polled = port.take(into, wait_ms)?;
@@ -171,15 +169,14 @@ impl<P: Port> Port for Answerer<P> {
 
     ghost faults = { λ a. faults_with (P.faults a.port.port) a.refused };
 
-    #[tactic(auto, using(crate::proofs::Refused::refused_cause, crate::proofs::Refused::refused_count, crate::proofs::Told::takes_told))]
+    #[tactic(auto, using(crate::proofs::Refused::refused_counts, crate::proofs::Refused::below_counts, crate::proofs::Told::takes_told))]
     fn take(&mut self, into: &mut [u8; 512], wait_ms: u32) -> Result<PortPolled, PortFault>
         ensures taken { TakesSo result into.new wait_ms (answerer_story self.old.port.own self.old.about self.old.failed (P.story self.old.port.port)) (answerer_story self.new.port.own self.new.about self.new.failed (P.story self.new.port.port)) }
-        ensures cause { FailsWhere result (faults_with (P.faults self.old.port.port) self.old.refused) (faults_with (P.faults self.new.port.port) self.new.refused) }
-        ensures count { faults_with (P.faults self.old.port.port) self.old.refused ≤ faults_with (P.faults self.new.port.port) self.new.refused }
+        ensures counts { faults_with (P.faults self.new.port.port) self.new.refused ≡ after_call result (faults_with (P.faults self.old.port.port) self.old.refused) }
         ensures own { self.new.port.own ≡ self.old.port.own }
         ensures about { self.new.about ≡ self.old.about }
         // it fails only where the other port does; once an answer has failed, with that fault, and then nothing is done
-        ensures below { self.old.failed ≡ None → FailsWhere result (P.faults self.old.port.port) (P.faults self.new.port.port) }
+        ensures below { self.old.failed ≡ None → P.faults self.new.port.port ≡ after_call result (P.faults self.old.port.port) }
         ensures answered { AllAnswered self.new.about self.new.failed (named_story self.new.port.own (P.story self.new.port.port)) }
         ensures broken { self.old.failed ≡ None → IfErr result (λ fault. FailsFor fault self.old.about self.new.failed (named_story self.old.port.own (P.story self.old.port.port)) (named_story self.new.port.own (P.story self.new.port.port))) }
         ensures stands { OnOk result ((self.old.failed ≡ None) × (self.new.failed ≡ None)) }
@@ -189,13 +186,12 @@ impl<P: Port> Port for Answerer<P> {
         taken(&mut self.port, &self.about, &mut self.failed, into, wait_ms)
     }
 
-    #[tactic(auto, using(crate::proofs::Told::gave_told, crate::proofs::Told::gave_or_not_told, crate::proofs::Refused::refused_cause, crate::proofs::Refused::refused_count))]
+    #[tactic(auto, using(crate::proofs::Told::gave_told, crate::proofs::Told::gave_or_not_told, crate::proofs::Refused::refused_counts, crate::proofs::Refused::below_counts))]
     fn give(&mut self, to: u32, octets: &[u8]) -> Result<(), PortFault>
         ensures given { OnOk result (Adds (Gave to octets.now) (answerer_story self.old.port.own self.old.about self.old.failed (P.story self.old.port.port)) (answerer_story self.new.port.own self.new.about self.new.failed (P.story self.new.port.port))) }
         ensures failed { OnErr result (GivesOrNot to octets.now (answerer_story self.old.port.own self.old.about self.old.failed (P.story self.old.port.port)) (answerer_story self.new.port.own self.new.about self.new.failed (P.story self.new.port.port))) }
-        ensures cause { FailsWhere result (faults_with (P.faults self.old.port.port) self.old.refused) (faults_with (P.faults self.new.port.port) self.new.refused) }
-        ensures count { faults_with (P.faults self.old.port.port) self.old.refused ≤ faults_with (P.faults self.new.port.port) self.new.refused }
-        ensures below { self.old.failed ≡ None → FailsWhere result (P.faults self.old.port.port) (P.faults self.new.port.port) }
+        ensures counts { faults_with (P.faults self.new.port.port) self.new.refused ≡ after_call result (faults_with (P.faults self.old.port.port) self.old.refused) }
+        ensures below { self.old.failed ≡ None → P.faults self.new.port.port ≡ after_call result (P.faults self.old.port.port) }
         ensures own { self.new.port.own ≡ self.old.port.own }
         ensures about { self.new.about ≡ self.old.about }
         ensures others { self.old.failed ≡ None → self.new ≡ record self.old { port = self.new.port } }

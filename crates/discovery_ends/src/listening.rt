@@ -3,7 +3,7 @@
 ghost use Rattle.std.specs.Prelude.{◌≡◌, ◌≤◌, ◌<◌, ◌+◌, ◌⊎◌, ℕ, List, IsTrue, false, length};
 ghost use Rattle.discovery.specs.Finding.{most_found};
 ghost use Rattle.line_model.specs.LinkStory.{Clock, Untold};
-ghost use Rattle.line_model.specs.Polled.{FailsWhere, NeverFall};
+ghost use Rattle.line_model.specs.Polled.{after_call};
 ghost use Rattle.line_model.specs.Record.{Entry};
 ghost use Rattle.discovery_ends.specs.Going.{Awake, ListenedSo, PolledSo};
 ghost use Rattle.discovery_ends.specs.Searching.{Takes, most_datagrams};
@@ -30,8 +30,7 @@ pub fn listen<L: Link>(link: &mut L, finder: &mut Finder, most: u32) -> Result<L
     ensures so { (clock : Clock) (r : List Entry) (got : List (List ℕ)) → Awake clock (L.story link.old) r → Takes finder.old.inquiry got finder.old.found → length got + most ≡ most_datagrams → ListenedSo clock result finder.old.inquiry r got (L.story link.new) finder.new.found }
     ensures untold { L.story link.old ≡ Untold → L.story link.new ≡ Untold }
     ensures inquiry { finder.new.inquiry ≡ finder.old.inquiry }
-    ensures cause { FailsWhere result (L.faults link.old) (L.faults link.new) }
-    ensures count { NeverFall (L.faults link.old) (L.faults link.new) }
+    ensures counts { L.faults link.new ≡ after_call result (L.faults link.old) }
     ensures time { L.clock link.old ≤ L.clock link.new }
     ensures events { L.place link.old ≤ L.place link.new }
     ensures script { L.script link.new ≡ L.script link.old }
@@ -67,8 +66,7 @@ fn poll<L: Link>(link: &mut L, finder: &mut Finder) -> Result<Heard, LinkFault>
     ensures so { (clock : Clock) (r : List Entry) → Awake clock (L.story link.old) r → PolledSo clock result finder.old.inquiry r (L.story link.new) finder.old.found finder.new.found }
     ensures untold { L.story link.old ≡ Untold → L.story link.new ≡ Untold }
     ensures inquiry { finder.new.inquiry ≡ finder.old.inquiry }
-    ensures cause { FailsWhere result (L.faults link.old) (L.faults link.new) }
-    ensures count { NeverFall (L.faults link.old) (L.faults link.new) }
+    ensures counts { L.faults link.new ≡ after_call result (L.faults link.old) }
     ensures time { L.clock link.old ≤ L.clock link.new }
     ensures events { L.place link.old ≤ L.place link.new }
     ensures script { L.script link.new ≡ L.script link.old }

@@ -2,8 +2,8 @@
 
 ghost use Rattle.std.specs.Prelude.{◌≡◌, []};
 ghost use Rattle.line_model.specs.LinkStory.{IsNewLink};
-ghost use Rattle.line_model.specs.Polled.{none_failed};
-ghost use Rattle.discovery_ends.specs.Looking.{FailsForLink, Looks};
+ghost use Rattle.line_model.specs.Polled.{after_call, none_failed};
+ghost use Rattle.discovery_ends.specs.Looking.{Looks};
 ghost use Rattle.discovery_ends.specs.Searching.{SearchesNew};
 
 use crate::search::{Findings, run};
@@ -45,7 +45,7 @@ fn search_over<D: Dialer>(dial: &mut D, link: D::L, finder: Finder) -> Findings
     requires none { finder.found ≡ [] }
     ensures inquiry { result.finder.inquiry ≡ finder.inquiry }
     ensures searches { SearchesNew finder.inquiry (D.now dial.new).link_back result.finder.found result.ended }
-    ensures cause { FailsForLink result.ended (D.now dial.old).faults (D.now dial.old).wanting (D.now dial.new) }
+    ensures counts { (D.now dial.new).counts ≡ after_call result.ended (D.now dial.old).counts }
     ensures given { (D.now dial.new).given ≡ (D.now dial.old).given }
     ensures dials { (D.now dial.new).dials ≡ (D.now dial.old).dials }
 {

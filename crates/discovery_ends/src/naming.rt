@@ -1,8 +1,8 @@
 //! A port at which a gateway names where it is bound.
 
 ghost use Rattle.std.specs.Prelude.{◌≡◌, ◌≤◌, ◌+◌, OnErr, OnOk, Some, length};
-ghost use Rattle.line_model.specs.PortStory.{Adds, FailsWhere, Gave, GivesOrNot, TakesSo};
-ghost use Rattle.discovery_ends.specs.Naming.{exchanged, exchanged_at, has_place, named, named_story, nowhere, place_in};
+ghost use Rattle.line_model.specs.PortStory.{Adds, Gave, GivesOrNot, TakesSo, after_call};
+ghost use Rattle.discovery_ends.specs.Naming.{exchanged, exchanged_at, has_place, named, named_story, place_in};
 
 use discovery::Datagram;
 use line_model::{Port, PortFault, PortPolled};
@@ -118,8 +118,7 @@ fn give_named<P: Port>(
 ) -> Result<(), PortFault>
     ensures given { OnOk result (Adds (Gave to (named own.now octets.now)) (P.story port.old) (P.story port.new)) }
     ensures failed { OnErr result (GivesOrNot to (named own.now octets.now) (P.story port.old) (P.story port.new)) }
-    ensures cause { FailsWhere result (P.faults port.old) (P.faults port.new) }
-    ensures count { P.faults port.old ≤ P.faults port.new }
+    ensures counts { P.faults port.new ≡ after_call result (P.faults port.old) }
 {
     match place_in(octets) {
         Some(place) => port.give(to, exchanged_at(place, own, octets).as_slice()),
@@ -137,8 +136,7 @@ impl<P: Port> Port for NamedPort<P> {
     #[tactic(auto, using(crate::proofs::Named::took_named, crate::proofs::Named::quiet_named))]
     fn take(&mut self, into: &mut [u8; 512], wait_ms: u32) -> Result<PortPolled, PortFault>
         ensures taken { TakesSo result into.new wait_ms (named_story self.old.own (P.story self.old.port)) (named_story self.new.own (P.story self.new.port)) }
-        ensures cause { FailsWhere result (P.faults self.old.port) (P.faults self.new.port) }
-        ensures count { P.faults self.old.port ≤ P.faults self.new.port }
+        ensures counts { P.faults self.new.port ≡ after_call result (P.faults self.old.port) }
         ensures own { self.new.own ≡ self.old.own }
     {
         self.port.take(into, wait_ms)
@@ -148,8 +146,7 @@ impl<P: Port> Port for NamedPort<P> {
     fn give(&mut self, to: u32, octets: &[u8]) -> Result<(), PortFault>
         ensures given { OnOk result (Adds (Gave to octets.now) (named_story self.old.own (P.story self.old.port)) (named_story self.new.own (P.story self.new.port))) }
         ensures failed { OnErr result (GivesOrNot to octets.now (named_story self.old.own (P.story self.old.port)) (named_story self.new.own (P.story self.new.port))) }
-        ensures cause { FailsWhere result (P.faults self.old.port) (P.faults self.new.port) }
-        ensures count { P.faults self.old.port ≤ P.faults self.new.port }
+        ensures counts { P.faults self.new.port ≡ after_call result (P.faults self.old.port) }
         ensures own { self.new.own ≡ self.old.own }
     {
         give_named(&mut self.port, &self.own, to, octets)

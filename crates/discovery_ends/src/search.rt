@@ -1,10 +1,10 @@
 //! Looking for gateways over a link.
 
-ghost use Rattle.std.specs.Prelude.{◌≡◌, ◌≤◌, ◌+◌, ◌↔◌, ℕ, IfOk, IsTrue, List, OnErr, Some, [], length};
+ghost use Rattle.std.specs.Prelude.{◌≡◌, ◌≤◌, ◌+◌, ◌↔◌, ℕ, IfOk, IsTrue, List, OnErr, [], length};
 ghost use Rattle.discovery.specs.Discovery.{Written};
 ghost use Rattle.discovery.specs.Finding.{request_of};
 ghost use Rattle.line_model.specs.LinkStory.{Clock, Recorded, Untold};
-ghost use Rattle.line_model.specs.Polled.{FailsWhere, NeverFall};
+ghost use Rattle.line_model.specs.Polled.{after_call};
 ghost use Rattle.line_model.specs.Record.{Entry};
 ghost use Rattle.discovery_ends.specs.Going.{AgainSo, RoundSo};
 ghost use Rattle.discovery_ends.specs.Searching.{Searches, Takes, most_datagrams, recorded};
@@ -31,9 +31,8 @@ pub struct Findings {
 pub fn find<L: Link>(alloc: Global, link: &mut L, inquiry: Inquiry) -> Result<Findings, NoMemory>
     ensures searches { IfOk result (λ s. (s.finder.inquiry ≡ inquiry) × Searches inquiry (L.story link.old) (L.story link.new) s.finder.found s.ended) }
     ensures untold { L.story link.old ≡ Untold → L.story link.new ≡ Untold }
-    ensures cause { IfOk result (λ s. FailsWhere s.ended (L.faults link.old) (L.faults link.new)) }
+    ensures counts { IfOk result (λ s. L.faults link.new ≡ after_call s.ended (L.faults link.old)) }
     ensures unsent { OnErr result (link.new ≡ link.old) }
-    ensures count { NeverFall (L.faults link.old) (L.faults link.new) }
     ensures time { L.clock link.old ≤ L.clock link.new }
     ensures events { L.place link.old ≤ L.place link.new }
     ensures script { L.script link.new ≡ L.script link.old }
@@ -48,8 +47,7 @@ pub(crate) fn run<L: Link>(link: &mut L, finder: &mut Finder) -> Result<(), Link
     ensures so { finder.old.found ≡ [] → Searches finder.old.inquiry (L.story link.old) (L.story link.new) finder.new.found result }
     ensures untold { L.story link.old ≡ Untold → L.story link.new ≡ Untold }
     ensures inquiry { finder.new.inquiry ≡ finder.old.inquiry }
-    ensures cause { FailsWhere result (L.faults link.old) (L.faults link.new) }
-    ensures count { NeverFall (L.faults link.old) (L.faults link.new) }
+    ensures counts { L.faults link.new ≡ after_call result (L.faults link.old) }
     ensures time { L.clock link.old ≤ L.clock link.new }
     ensures events { L.place link.old ≤ L.place link.new }
     ensures script { L.script link.new ≡ L.script link.old }
@@ -66,8 +64,7 @@ fn again<L: Link>(link: &mut L, finder: &mut Finder, left: u32) -> Result<(), Li
     ensures so { AgainSo result finder.old.inquiry left (L.story link.old) (L.story link.new) finder.old.found finder.new.found }
     ensures untold { L.story link.old ≡ Untold → L.story link.new ≡ Untold }
     ensures inquiry { finder.new.inquiry ≡ finder.old.inquiry }
-    ensures cause { FailsWhere result (L.faults link.old) (L.faults link.new) }
-    ensures count { NeverFall (L.faults link.old) (L.faults link.new) }
+    ensures counts { L.faults link.new ≡ after_call result (L.faults link.old) }
     ensures time { L.clock link.old ≤ L.clock link.new }
     ensures events { L.place link.old ≤ L.place link.new }
     ensures script { L.script link.new ≡ L.script link.old }
@@ -86,8 +83,7 @@ fn round<L: Link>(link: &mut L, finder: &mut Finder, most: u32) -> Result<Listen
     ensures so { (clock : Clock) (r : List Entry) (got : List (List ℕ)) → recorded (L.story link.old) ≡ Recorded clock r → Takes finder.old.inquiry got finder.old.found → length got + most ≡ most_datagrams → RoundSo clock result finder.old.inquiry r got (L.story link.new) finder.old.found finder.new.found }
     ensures untold { L.story link.old ≡ Untold → L.story link.new ≡ Untold }
     ensures inquiry { finder.new.inquiry ≡ finder.old.inquiry }
-    ensures cause { FailsWhere result (L.faults link.old) (L.faults link.new) }
-    ensures count { NeverFall (L.faults link.old) (L.faults link.new) }
+    ensures counts { L.faults link.new ≡ after_call result (L.faults link.old) }
     ensures time { L.clock link.old ≤ L.clock link.new }
     ensures events { L.place link.old ≤ L.place link.new }
     ensures script { L.script link.new ≡ L.script link.old }

@@ -29,13 +29,13 @@ pub headline : (jobs : List Job) (turns : List GroupTurn) (log : List LogEntry) 
 headline jobs turns log Untold k alone tells kept legal hastens = tt
 headline jobs turns log (Recorded clock r) k alone tells kept legal hastens =
     let right = (kept (counted r) refl).right in
-    disciplined clock jobs turns (length r) (counted r) log (entries (counted r)) refl (tells (counted r) refl) (hastens (counted r) refl) alone right.renews right.sends right.acknowledges
+    disciplined clock jobs turns (length r) (counted r) log (entries (counted r)) refl (tells (counted r) refl) (hastens (counted r) refl) alone right.renews right.sends right.writes right.acknowledges
 headline jobs turns log (Full start events) k alone tells kept legal hastens =
     let right = (kept (placed start events) refl).right in
     record {
       fresh = legal.fresh;
       legal = legal.legal;
-      disciplined = disciplined Exact jobs turns (length events) (placed start events) log (entries (placed start events)) refl (tells (placed start events) refl) (hastens (placed start events) refl) alone right.renews right.sends right.acknowledges;
+      disciplined = disciplined Exact jobs turns (length events) (placed start events) log (entries (placed start events)) refl (tells (placed start events) refl) (hastens (placed start events) refl) alone right.renews right.sends right.writes right.acknowledges;
     }
 
 -- ---- and what the line's law asks of it, without promptness

@@ -1,20 +1,20 @@
 -- What a commission of a line leaves: how its link went on, and what is told of the run. It is so over every link, and at want of memory and after a
 -- fault too; what is said of a record or of events holds where the link tells them.
-use Rattle.std.specs.Prelude.{◌≡◌, ◌⊎◌, ℕ, List, [], map, reverse, None, IfSome}
+use Rattle.std.specs.Prelude.{◌≡◌, ◌⊎◌, ℕ, List, [], map, reverse, None, Some}
 use Rattle.std.specs.List.{AllByRecursion}
 use Rattle.knx_model.specs.declared.address.IndAddr.{IndAddr}
-use Rattle.line_model.specs.declared.fault.HubFault.{HubFault}
 use Rattle.line_model.specs.declared.fault.HubFault.TheVariants.{NoMemory}
 use Rattle.line_model.specs.declared.group.GroupTurn.{GroupTurn}
 use Rattle.line_model.specs.declared.log.LogEntry.{LogEntry}
 use Rattle.line_model.specs.declared.log.Report.{Report}
-use Rattle.line_model.specs.declared.outside.link_counts.LinkCounts.{LinkCounts}
+use Rattle.line_model.specs.declared.outside.fault_counts.FaultCounts.{FaultCounts}
 use Rattle.line_model.specs.Headline.{Keeps, IsGoodJob}
 use Rattle.line_model.specs.Lines.{Script}
 use Rattle.line_model.specs.LinkStory.{Story, record_in}
+use Rattle.line_model.specs.Polled.{after_fault}
 use Rattle.line_model.specs.Log.{Job, IsLog, OneDownloaderPerDevice, TakenInOrder, AllOver, TurnUnfinished}
 use Rattle.tunnel_link.specs.Goes.{GoesOn}
-use Rattle.tunnel_link.specs.Rights.{FailsWhere, WhereTold}
+use Rattle.tunnel_link.specs.Rights.{WhereTold}
 use Rattle.hub_work.specs.declared.job.HubJob.{HubJob}
 use Rattle.hub_work.specs.Books.{AreJobsOf}
 use Rattle.hub_work.specs.Downloaders.{Task, AreJobsWith}
@@ -57,12 +57,8 @@ pub record TellsRun (workers : ℕ) (tasks : List Task) (devices : List IndAddr)
 
 -- ---- there was no memory before the first turn: nothing more is told than that
 
-abbrev pub IsNoMemory : HubFault → Type 0
-IsNoMemory (NoMemory want) = Unit {0}
-IsNoMemory _ = ⊥
-
-pub record WantsAtFirst (fault : HubFault) (report : Report) : Type 0 where
-  pub wants : IsNoMemory fault
+pub record WantsAtFirst (report : Report) : Type 0 where
+  pub wants : report.fault ≡ Some (NoMemory tt)
   pub log : report.log ≡ []
   pub heard : report.heard ≡ []
   pub missed : report.missed ≡ 0
@@ -70,9 +66,10 @@ pub record WantsAtFirst (fault : HubFault) (report : Report) : Type 0 where
 
 -- ---- a commission of these jobs and group telegrams by so many workers, over a link of which this is seen, before it and when it is handed back
 
-pub record Commissioned {L : Type 0} (story_of : L → Story) (place_of : L → ℕ) (script_of : L → Script) (faults_of : L → LinkCounts) (workers : ℕ) (hub_jobs : List HubJob) (turns : List GroupTurn) (before after : L) (report : Report) : Type 0 where
+pub record Commissioned {L : Type 0} (story_of : L → Story) (place_of : L → ℕ) (script_of : L → Script) (faults_of : L → FaultCounts) (workers : ℕ) (hub_jobs : List HubJob) (turns : List GroupTurn) (before after : L) (report : Report) : Type 0 where
   pub grows : GoesOn (story_of before) (story_of after)
   pub script : script_of after ≡ script_of before
-  -- that the link failed, or had no memory, is told only where its count of that rose; or there was no memory before the first turn, and the link is as it was
-  pub cause : IfSome report.fault (λ fault. FailsWhere fault (faults_of before) (faults_of after) ⊎ (WantsAtFirst fault report × (after ≡ before)))
+  -- that the link failed, or had no memory, is told exactly where one call of it did so, and no call failed else; or there was no memory before the first turn, and
+  -- the link is as it was
+  pub counts : (faults_of after ≡ after_fault report.fault (faults_of before)) ⊎ (WantsAtFirst report × (after ≡ before))
   pub tells : TellsRun workers (tasks_seen hub_jobs) (map (λ (job : HubJob). job.device) hub_jobs) turns (story_of after) (place_of after) report

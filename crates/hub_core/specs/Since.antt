@@ -1,22 +1,19 @@
--- How a hub went on since it was so, over any number of its calls: its link's story goes on and the script stays, the run stays, the link's counts
--- never fall, and that the link failed, or had no memory, is its fault only where the count of that has risen.
-use Rattle.std.specs.Prelude.{◌≡◌, Option, IfSome}
-use Rattle.line_model.specs.declared.fault.HubFault.{HubFault}
-use Rattle.line_model.specs.declared.outside.link_counts.LinkCounts.{LinkCounts}
+-- How a hub went on since it was so, over any number of its calls: its link's story goes on and the script stays, the run stays, and the link's counts tell
+-- its fault: one call of the link failed, or found no memory, exactly where that is why nothing more is done.
+use Rattle.std.specs.Prelude.{◌≡◌}
+use Rattle.line_model.specs.declared.outside.fault_counts.FaultCounts.{FaultCounts}
 use Rattle.line_model.specs.Lines.{Script}
 use Rattle.line_model.specs.LinkStory.{Story}
-use Rattle.line_model.specs.Polled.{NeverFall}
+use Rattle.line_model.specs.Polled.{after_fault}
 use Rattle.tunnel_link.specs.Goes.{GoesOn}
-use Rattle.tunnel_link.specs.Rights.{FailsWhere}
 use Rattle.hub_core.specs.Seen.{Seen, SameRun}
 
--- that the link failed, or had no memory, is its fault only where the link's count of that has risen since the counts were these, and none fell
-abbrev pub CausedSince : LinkCounts → Option HubFault → LinkCounts → Type 0
-CausedSince before fault now = NeverFall before now × IfSome fault (λ why. FailsWhere why before now)
+-- where the counts are those before, and the one of its fault, they are so later too
+abbrev pub CountsOn : {L : Type 0} → (L → FaultCounts) → Seen L → Seen L → Type 0
+CountsOn faults_of old new = (before : FaultCounts) → faults_of old.link ≡ after_fault old.fault before → faults_of new.link ≡ after_fault new.fault before
 
-pub record Since {L : Type 0} (story_of : L → Story) (script_of : L → Script) (faults_of : L → LinkCounts) (old new : Seen L) : Type 0 where
+pub record Since {L : Type 0} (story_of : L → Story) (script_of : L → Script) (faults_of : L → FaultCounts) (old new : Seen L) : Type 0 where
   pub grows : GoesOn (story_of old.link) (story_of new.link)
   pub script : script_of new.link ≡ script_of old.link
   pub run : SameRun old new
-  pub count : NeverFall (faults_of old.link) (faults_of new.link)
-  pub caused : (before : LinkCounts) → CausedSince before old.fault (faults_of old.link) → CausedSince before new.fault (faults_of new.link)
+  pub counts : CountsOn faults_of old new

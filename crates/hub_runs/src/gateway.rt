@@ -6,7 +6,7 @@ ghost use Rattle.line_model.specs.Polled.{PollsSo};
 
 use device_sim::Device;
 use knx_model::{ApduOctets, Datagram, IndAddr, IpFrame, Ldata, LdataCode, NoMemory, Took};
-use line_model::{Link, LinkCounts, LinkFault, Polled};
+use line_model::{FaultCounts, Link, LinkFault, Polled};
 use std::alloc::Global;
 
 /// The address of its tunnel, 1.1.255.
@@ -42,7 +42,7 @@ pub struct Gateway {
     jump: Option<Jump>,
     now: u64,
     at: u64,
-    faults: LinkCounts,
+    faults: FaultCounts,
 }
 
 /// The gateway's side: what it does with what it is sent.
@@ -70,7 +70,7 @@ impl Gateway {
             jump: None,
             now: 0,
             at: 0,
-            faults: LinkCounts::none(),
+            faults: FaultCounts::none(),
         }
     }
 

@@ -90,7 +90,7 @@ is_wait_over TimedOut = true
 is_wait_over Interrupted = true
 is_wait_over _ = false
 
--- ---- which fault an error is: want of memory is told as itself, and isn't counted at a port
+-- ---- which fault an error is: want of memory is told as itself
 
 abbrev pub link_fault_of : ErrorKind → LinkFault
 link_fault_of OutOfMemory = link_fault.NoMemory tt
@@ -99,10 +99,6 @@ link_fault_of _ = link_fault.Failed
 abbrev pub port_fault_of : ErrorKind → PortFault
 port_fault_of OutOfMemory = port_fault.NoMemory tt
 port_fault_of _ = port_fault.Failed
-
-abbrev pub counted : ErrorKind → ℕ → ℕ
-counted OutOfMemory faults = faults
-counted _ faults = one_more faults
 
 -- ---- how many calls of a link were answered: one more, where this one is; at most the greatest number of 64 bits
 abbrev pub entries_after : {X : Type 0} → Result X LinkFault → ℕ → ℕ

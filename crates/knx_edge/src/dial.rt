@@ -1,8 +1,8 @@
 //! Dials gateways and binds ports over UDP. It tells nothing of what it was given, nor of what came back.
 
-ghost use Rattle.std.specs.Prelude.{◌≡◌, ◌≤◌, IfErr, IfOk, IsErr, None, Ok, OnErr, OnOk};
-ghost use Rattle.knx_model.specs.Outside.{Rose, one_more};
-ghost use Rattle.line_model.specs.Dialled.{TakesBack, Tells};
+ghost use Rattle.std.specs.Prelude.{◌≡◌, IfErr, IfOk, IsErr, None, Ok, OnOk};
+ghost use Rattle.knx_model.specs.Outside.{one_more};
+ghost use Rattle.line_model.specs.Dialled.{Tells, after_dial};
 ghost use Rattle.line_model.specs.LinkStory as link_story;
 ghost use Rattle.line_model.specs.LinkStory.{IsNewLink};
 ghost use Rattle.line_model.specs.Polled.{none_failed};
@@ -13,7 +13,7 @@ ghost use Rattle.knx_edge.specs.Datagrams.{IsAt};
 use crate::link::UdpLink;
 use crate::port::UdpPort;
 use crate::socket::address_of;
-use line_model::{DialFailed, Dialer, LinkCounts};
+use line_model::{DialFailed, Dialer, FaultCounts};
 use std::alloc::Global;
 use std::io;
 use std::net::{Net, UdpSocket};
@@ -26,21 +26,19 @@ pub struct UdpDialer<'a, R> {
     rt: &'a R,
     alloc: Global,
     dials: u64,
-    faults: u64,
-    wanting: u64,
+    counts: FaultCounts,
 }
 
 impl<'a, R: Net + Clock + RandomSource> UdpDialer<'a, R> {
     /// A dialer of which no call was made yet.
     pub fn new(rt: &'a R, alloc: Global) -> Self
-        ensures { (result.dials ≡ 0) × (result.faults ≡ 0) × (result.wanting ≡ 0) }
+        ensures { (result.dials ≡ 0) × (result.counts ≡ none_failed) }
     {
         UdpDialer {
             rt,
             alloc,
             dials: 0,
-            faults: 0,
-            wanting: 0,
+            counts: FaultCounts::none(),
         }
     }
 
@@ -48,28 +46,15 @@ impl<'a, R: Net + Clock + RandomSource> UdpDialer<'a, R> {
     fn answer<T>(&mut self, opened: io::Result<T>) -> Result<T, DialFailed>
         ensures ok { IfOk opened (λ x. (result ≡ Ok x) × (self.new ≡ self.old)) }
         ensures error { IfErr opened (λ _. IsErr result) }
-        ensures failed { OnErr result (Rose self.old.faults self.new.faults) }
-        ensures count { self.old.faults ≤ self.new.faults }
-        ensures wanting { self.new.wanting ≡ self.old.wanting }
+        ensures counts { self.new.counts ≡ after_dial result self.old.counts }
         ensures dials { self.new.dials ≡ self.old.dials }
     {
         match opened {
             Ok(opened) => Ok(opened),
             Err(_) => {
-                self.faults = self.faults.saturating_add(1);
+                self.counts.fail();
                 Err(DialFailed)
             }
-        }
-    }
-
-    /// Counts a fault where what comes back had one.
-    fn take_back(&mut self, faults: u64)
-        ensures count { TakesBack faults self.old.faults self.new.faults }
-        ensures wanting { self.new.wanting ≡ self.old.wanting }
-        ensures dials { self.new.dials ≡ self.old.dials }
-    {
-        if faults != 0 {
-            self.faults = self.faults.saturating_add(1);
         }
     }
 }
@@ -79,17 +64,14 @@ impl<'a, R: Net + Clock + RandomSource + Sync> Dialer for UdpDialer<'a, R> {
 
     type P = UdpPort<'a, R, UdpSocket>;
 
-    ghost now = { λ d. record { faults = d.faults; wanting = d.wanting; dials = d.dials; given = None; link_back = link_story.Untold; port_back = port_story.Untold } };
+    ghost now = { λ d. record { counts = d.counts; dials = d.dials; given = None; link_back = link_story.Untold; port_back = port_story.Untold } };
 
     fn dial(&mut self, host: [u8; 4], port: u16) -> Result<UdpLink<'a, R, UdpSocket>, DialFailed>
         ensures fresh { OnOk result (IsNewLink link_story.Untold) }
         ensures tells { Tells host port None }
         ensures gateway { IfOk result (λ l. IsAt host port l.gateway) }
         ensures sound { IfOk result (λ l. l.faults ≡ none_failed) }
-        ensures failed { OnErr result (Rose self.old.faults self.new.faults) }
-        ensures still { OnOk result (self.new.faults ≡ self.old.faults) }
-        ensures count { self.old.faults ≤ self.new.faults }
-        ensures wanting { self.new.wanting ≡ self.old.wanting }
+        ensures counts { self.new.counts ≡ after_dial result self.old.counts }
         ensures dials { self.new.dials ≡ one_more self.old.dials }
     {
         self.dials = self.dials.saturating_add(1);
@@ -101,10 +83,7 @@ impl<'a, R: Net + Clock + RandomSource + Sync> Dialer for UdpDialer<'a, R> {
         ensures fresh { OnOk result (IsNewPort port_story.Untold) }
         ensures tells { Tells host port None }
         ensures sound { IfOk result (λ p. p.faults ≡ 0) }
-        ensures failed { OnErr result (Rose self.old.faults self.new.faults) }
-        ensures still { OnOk result (self.new.faults ≡ self.old.faults) }
-        ensures count { self.old.faults ≤ self.new.faults }
-        ensures wanting { self.new.wanting ≡ self.old.wanting }
+        ensures counts { self.new.counts ≡ after_dial result self.old.counts }
         ensures dials { self.new.dials ≡ one_more self.old.dials }
     {
         self.dials = self.dials.saturating_add(1);
@@ -113,15 +92,11 @@ impl<'a, R: Net + Clock + RandomSource + Sync> Dialer for UdpDialer<'a, R> {
     }
 
     fn hang(&mut self, line: UdpLink<'a, R, UdpSocket>) {
-        let LinkCounts { failed, wanting } = line.faults();
-        self.take_back(failed);
-        if wanting != 0 {
-            self.wanting = self.wanting.saturating_add(1);
-        }
+        self.counts.take_link(line.faults());
     }
 
     fn shut(&mut self, door: UdpPort<'a, R, UdpSocket>) {
-        self.take_back(door.faults());
+        self.counts.take_port(door.faults());
     }
 }
 
@@ -140,10 +115,10 @@ mod tests {
         let taken = other.local_addr()?.port();
         let mut dialer = UdpDialer::new(&rt, rt.alloc());
         assert!(rt; dialer.bind(HOST, taken).is_err());
-        assert_eq!(rt; dialer.faults, 1);
+        assert_eq!(rt; dialer.counts.failed, 1);
         let door = dialer.bind(HOST, 0).ok().ok_or("no port")?;
         dialer.shut(door);
-        assert_eq!(rt; dialer.faults, 1);
+        assert_eq!(rt; dialer.counts.failed, 1);
         Ok(())
     }
 
@@ -158,7 +133,7 @@ mod tests {
         }
         assert_eq!(rt; line.faults().failed, 2);
         dialer.hang(line);
-        assert_eq!(rt; dialer.faults, 1);
+        assert_eq!(rt; dialer.counts.failed, 2);
         Ok(())
     }
 }

@@ -6,12 +6,12 @@ ghost use Rattle.std.specs.IoError.{error_kind};
 ghost use Rattle.std.specs.Prelude.{◌≡◌, ◌≤◌, Err, IfErr, IfOk, Ok, OnErr, OnOk};
 ghost use Rattle.knx_model.specs.Outside.{one_more};
 ghost use Rattle.line_model.specs.LinkStory.{Renews, RenewsOrNot, Sends, SendsOrNot, Untold};
-ghost use Rattle.line_model.specs.Polled.{FailsWhere, NeverFall, PollsSo, after_call, none_failed};
+ghost use Rattle.line_model.specs.Polled.{PollsSo, after_call, none_failed};
 ghost use Rattle.knx_edge.specs.Datagrams.{Gives, IsUnused, LinkBrings, entries_after, link_fault_of};
 
 use crate::disk::memory_of;
 use crate::socket::{Datagrams, LONGEST, Senders, address_of, receive_of, send_whole};
-use line_model::{Link, LinkCounts, LinkFault, Polled};
+use line_model::{FaultCounts, Link, LinkFault, Polled};
 use std::io;
 use std::net::{Net, SocketAddr};
 use std::time::{Clock, Instant};
@@ -27,7 +27,7 @@ pub struct UdpLink<'a, R, S> {
     time: u64,
     /// How many datagrams were sent, new endpoints taken and waits ended.
     done: u64,
-    faults: LinkCounts,
+    faults: FaultCounts,
 }
 
 impl<'a, R: Net + Clock, S: Datagrams> UdpLink<'a, R, S> {
@@ -44,12 +44,12 @@ impl<'a, R: Net + Clock, S: Datagrams> UdpLink<'a, R, S> {
             started: Instant::now(rt)?,
             time: 0,
             done: 0,
-            faults: LinkCounts::none(),
+            faults: FaultCounts::none(),
         })
     }
 
     /// How many calls failed, and how many found no memory.
-    pub fn faults(&self) -> LinkCounts
+    pub fn faults(&self) -> FaultCounts
         ensures { result ≡ self.now.faults }
     {
         self.faults
@@ -106,8 +106,7 @@ impl<'a, R: Net + Clock, S: Datagrams> UdpLink<'a, R, S> {
     fn answer<T>(&mut self, done: io::Result<T>) -> Result<T, LinkFault>
         ensures ok { IfOk done (λ x. (result ≡ Ok x) × (self.new ≡ record self.old { done = one_more self.old.done })) }
         ensures error { IfErr done (λ error. (result ≡ Err (link_fault_of (error_kind error))) × (self.new ≡ record self.old { faults = after_call result self.old.faults })) }
-        ensures cause { FailsWhere result self.old.faults self.new.faults }
-        ensures count { NeverFall self.old.faults self.new.faults }
+        ensures counts { self.new.faults ≡ after_call result self.old.faults }
         ensures events { self.old.done ≤ self.new.done }
         ensures entry { self.new.done ≡ entries_after result self.old.done }
     {
@@ -143,10 +142,8 @@ impl<R: Net + Clock, S: Datagrams> Link for UdpLink<'_, R, S> {
         ensures sent { OnOk result (Sends octets.now Untold Untold) }
         ensures failed { OnErr result (SendsOrNot octets.now Untold Untold) }
         ensures given { OnOk result (Gives (record { octets = octets.now; peer = self.old.gateway }) (S.sent self.old.socket) (S.sent self.new.socket)) }
-        ensures still { OnOk result (self.new.faults ≡ self.old.faults) }
         ensures gateway { self.new.gateway ≡ self.old.gateway }
-        ensures cause { FailsWhere result self.old.faults self.new.faults }
-        ensures count { NeverFall self.old.faults self.new.faults }
+        ensures counts { self.new.faults ≡ after_call result self.old.faults }
         ensures time { self.new.time ≡ self.old.time }
         ensures events { self.old.done ≤ self.new.done }
         ensures entry { self.new.done ≡ entries_after result self.old.done }
@@ -159,11 +156,9 @@ impl<R: Net + Clock, S: Datagrams> Link for UdpLink<'_, R, S> {
         ensures renewed { OnOk result (Renews Untold Untold) }
         ensures failed { OnErr result (RenewsOrNot Untold Untold) }
         ensures unused { OnOk result (IsUnused (S.sent self.new.socket)) }
-        ensures still { OnOk result (self.new.faults ≡ self.old.faults) }
         ensures gateway { self.new.gateway ≡ self.old.gateway }
         ensures socket { OnErr result (self.new.socket ≡ self.old.socket) }
-        ensures cause { FailsWhere result self.old.faults self.new.faults }
-        ensures count { NeverFall self.old.faults self.new.faults }
+        ensures counts { self.new.faults ≡ after_call result self.old.faults }
         ensures time { self.new.time ≡ self.old.time }
         ensures events { self.old.done ≤ self.new.done }
         ensures entry { self.new.done ≡ entries_after result self.old.done }
@@ -175,10 +170,8 @@ impl<R: Net + Clock, S: Datagrams> Link for UdpLink<'_, R, S> {
     fn poll(&mut self, into: &mut [u8; LONGEST], wait_ms: u32) -> Result<Polled, LinkFault>
         ensures polled { PollsSo result into.new wait_ms self.new.time Untold Untold }
         ensures brings { IfOk result (λ polled. LinkBrings self.old.gateway polled into.new (S.coming self.old.socket) (S.coming self.new.socket)) }
-        ensures still { OnOk result (self.new.faults ≡ self.old.faults) }
         ensures gateway { self.new.gateway ≡ self.old.gateway }
-        ensures cause { FailsWhere result self.old.faults self.new.faults }
-        ensures count { NeverFall self.old.faults self.new.faults }
+        ensures counts { self.new.faults ≡ after_call result self.old.faults }
         ensures time { self.old.time ≤ self.new.time }
         ensures failed { OnErr result (self.new.time ≡ self.old.time) }
         ensures events { self.old.done ≤ self.new.done }

@@ -2,10 +2,9 @@
 
 ghost use Rattle.std.specs.IoError.{error_kind};
 ghost use Rattle.std.specs.Prelude.{◌≡◌, ◌≤◌, [], Err, IfErr, IfOk, IfSome, Ok, OnErr, OnOk, slice_get};
-ghost use Rattle.knx_model.specs.Outside.{one_more};
-ghost use Rattle.line_model.specs.PortStory.{Adds, FailsWhere, Gave, GivesOrNot, TakesSo, Untold};
+ghost use Rattle.line_model.specs.PortStory.{Adds, Gave, GivesOrNot, TakesSo, Untold, after_call};
 ghost use Rattle.knx_edge.specs.declared.socket.Senders.TheVariants.{Answerable};
-ghost use Rattle.knx_edge.specs.Datagrams.{BringsOf, GivesTo, NamesOn, PortBrings, counted, port_fault_of};
+ghost use Rattle.knx_edge.specs.Datagrams.{BringsOf, GivesTo, NamesOn, PortBrings, port_fault_of};
 
 use crate::clients::Clients;
 use crate::disk::memory_of;
@@ -112,9 +111,8 @@ impl<'a, R: Net + Clock + RandomSource, S: Datagrams> UdpPort<'a, R, S> {
     /// The answer of a call: an error is counted, but want of memory.
     fn answer<T>(&mut self, done: io::Result<T>) -> Result<T, PortFault>
         ensures ok { IfOk done (λ x. (result ≡ Ok x) × (self.new ≡ self.old)) }
-        ensures error { IfErr done (λ error. (result ≡ Err (port_fault_of (error_kind error))) × (self.new ≡ record self.old { faults = counted (error_kind error) self.old.faults })) }
-        ensures cause { FailsWhere result self.old.faults self.new.faults }
-        ensures count { self.old.faults ≤ self.new.faults }
+        ensures error { IfErr done (λ error. (result ≡ Err (port_fault_of (error_kind error))) × (self.new ≡ record self.old { faults = after_call result self.old.faults })) }
+        ensures counts { self.new.faults ≡ after_call result self.old.faults }
     {
         let error = match done {
             Ok(done) => return Ok(done),
@@ -139,9 +137,7 @@ impl<R: Net + Clock + RandomSource, S: Datagrams> Port for UdpPort<'_, R, S> {
         ensures taken { TakesSo result into.new wait_ms Untold Untold }
         ensures brings { IfOk result (λ polled. PortBrings polled into.new self.new.clients (S.coming self.old.socket) (S.coming self.new.socket)) }
         ensures clients { NamesOn self.old.clients self.new.clients }
-        ensures still { OnOk result (self.new.faults ≡ self.old.faults) }
-        ensures cause { FailsWhere result self.old.faults self.new.faults }
-        ensures count { self.old.faults ≤ self.new.faults }
+        ensures counts { self.new.faults ≡ after_call result self.old.faults }
     {
         let taken = self.receive(into, wait_ms);
         self.answer(taken)
@@ -152,9 +148,7 @@ impl<R: Net + Clock + RandomSource, S: Datagrams> Port for UdpPort<'_, R, S> {
         ensures failed { OnErr result (GivesOrNot to octets.now Untold Untold) }
         ensures put { OnOk result (GivesTo (slice_get self.old.clients to) octets.now (S.sent self.old.socket) (S.sent self.new.socket)) }
         ensures clients { self.new.clients ≡ self.old.clients }
-        ensures still { OnOk result (self.new.faults ≡ self.old.faults) }
-        ensures cause { FailsWhere result self.old.faults self.new.faults }
-        ensures count { self.old.faults ≤ self.new.faults }
+        ensures counts { self.new.faults ≡ after_call result self.old.faults }
     {
         let given = self.put(to, octets);
         self.answer(given)

@@ -1,12 +1,12 @@
 -- A line that was served with an answerer in front of its port, by what the port below told.
 use Rattle.std.proofs.Common.{◌≡◌, ◌<◌, ◌+◌, ℕ, zero, suc, Bool, List, [], ◌∷◌, ◌++◌, length, take, drop, map, Option, Some, None, Result, Ok, Err, refl, sym, ap, ◌∙◌, subst, inl, inr, arith}
-use Rattle.std.specs.Prelude.{IfErr, IfOk, OnErr, ◌&&◌, ◌==◌, if◌then◌else◌}
+use Rattle.std.specs.Prelude.{IfOk, OnErr, ◌&&◌, ◌==◌, if◌then◌else◌}
 use Rattle.std.specs.List.{AllByRecursion}
 use Rattle.std.specs.Str.{bytes_eq}
 use Rattle.std.proofs.lemmas.List.{append-nil, length-append}
 use Rattle.std.proofs.Math.Seq.{drop-append_seam, take-append_seam}
 use Rattle.bus_sim.specs.RunNow.{RunNow}
-use Rattle.bus_sim.specs.Serving.{AddsAll, BreaksOff, FailsAt, ServedSo}
+use Rattle.bus_sim.specs.Serving.{AddsAll, BreaksOff, CountsServing, ServedSo}
 use Rattle.bus_sim.specs.declared.serve.Served.{Served}
 use Rattle.discovery.specs.Discovery.{blocks_of, octets_of}
 use Rattle.discovery.specs.declared.about.About.{About}
@@ -16,8 +16,8 @@ use Rattle.discovery_ends.specs.Answering.{HasNoRequest, IsntRequest, answer_of,
 use Rattle.discovery_ends.specs.Naming.{named_item, named_story}
 use Rattle.knx_model.specs.Apdu.{word}
 use Rattle.knx_model.specs.KnxNetIp.{endpoint}
-use Rattle.knx_model.specs.Outside.{Rose}
 use Rattle.line_model.specs.PortStory.{Gave, IsNewPort, PortItem, PortStory, Quiet, Recorded, Took, Untold}
+use Rattle.line_model.specs.declared.outside.fault_counts.FaultCounts.{FaultCounts}
 use Rattle.line_model.specs.declared.outside.port.PortFault.{PortFault}
 use Rattle.line_model.specs.declared.outside.port.PortFault.TheVariants as fault
 
@@ -156,22 +156,20 @@ module _ (turns : ℕ) (began r : RunNow) (before after : PortStory) (P : Type 0
   by_added (Ok as_served) so broken = by so.items so.told
   by_added (Err why) so broken = by_broken broken
 
--- ---- why it failed: a call that was refused had its cause in one that failed below
+-- ---- how many calls failed: one was refused only where one had failed below
 
-rises_below : (below refused : ℕ) → (0 < refused → 0 < below) → Rose (faults_with 0 0) (faults_with below refused) → Rose 0 below
-rises_below zero zero cause h = h
-rises_below zero (suc n) cause h = inl (cause (omega arith))
-rises_below (suc m) refused cause h = inl (omega arith)
+no_fault_below : (below refused : ℕ) → faults_with below refused ≡ 0 → below ≡ 0
+no_fault_below below refused none = omega (arith, none)
 
-pub cause_below : (why : PortFault) (faults below refused old line : ℕ) (r : RunNow) → faults ≡ 0 → (0 < refused → 0 < below) → FailsAt why (faults_with faults 0) (faults_with below refused) old line r → FailsAt why faults below old line r
-cause_below (fault.NoMemory want) faults below refused old line r none cause h = h
-cause_below fault.Failed faults below refused old line r none cause (inl h) = inl (rw none (rises_below below refused cause (rw none at h.0)), h.1)
-cause_below fault.Failed faults below refused old line r none cause (inr h) = inr h
+one_fault_below : (below refused : ℕ) → (0 < refused → 0 < below) → faults_with below refused ≡ 1 → below ≡ 1
+one_fault_below below zero refuses one = omega (arith, one)
+one_fault_below below (suc n) refuses one = let failed : 0 < below = refuses (omega arith) in omega (arith, one, failed)
 
-pub if_cause_below : (result : Result Served PortFault) (faults below refused old line : ℕ) (r : RunNow) → faults ≡ 0 → (0 < refused → 0 < below)
-    → IfErr result (λ why. FailsAt why (faults_with faults 0) (faults_with below refused) old line r) → IfErr result (λ why. FailsAt why faults below old line r)
-if_cause_below (Ok as_served) faults below refused old line r none cause h = h
-if_cause_below (Err why) faults below refused old line r none cause h = cause_below why faults below refused old line r none cause h
+pub counts_below : (result : Result Served PortFault) (below refused : ℕ) (old line : FaultCounts) (r : RunNow) → (0 < refused → 0 < below) → CountsServing result 0 (faults_with below refused) old line r → CountsServing result 0 below old line r
+counts_below (Ok as_served) below refused old line r refuses h = (no_fault_below below refused h.0, h.1)
+counts_below (Err (fault.NoMemory want)) below refused old line r refuses h = (no_fault_below below refused h.0, h.1)
+counts_below (Err fault.Failed) below refused old line r refuses (inl port) = inl (one_fault_below below refused refuses port.0, port.1)
+counts_below (Err fault.Failed) below refused old line r refuses (inr end) = inr (no_fault_below below refused end.0, end.1, end.2)
 
 -- ---- at a new port no request was taken
 

@@ -1,10 +1,9 @@
 -- A whole call: what its command does, with what is written of its end; and what follows of that.
 use Rattle.std.proofs.Common.{◌≡◌, true, false, Option, Some, None, ◌⊎◌}
-use Rattle.knx_top.specs.Call.{AtMostOneRose, Does, Outside, left_in, touches}
+use Rattle.knx_top.specs.Call.{Does, Outside, begins_run, left_in}
 use Rattle.knx_top.specs.Command.{Assign, AssignSim, Big, Check, Command, Decode, Find, Gateway, Migrate, Sim, Tables, Download}
 use Rattle.call_parts.specs.declared.ending.End.{End}
 use Rattle.call_parts.specs.Ending.{Is, wanting}
-use Rattle.call_parts.specs.Input.{failed}
 use Rattle.knx_top.proofs.commands.Assigns.{assign_sim_written, assign_written}
 use Rattle.knx_top.proofs.commands.Bigs.{made_written}
 use Rattle.knx_top.proofs.commands.Downloads.{dialled_written}
@@ -16,10 +15,6 @@ use Rattle.knx_top.proofs.commands.Sims.{script_written}
 use Rattle.knx_top.specs.commands.Check.{IsCountsText}
 use Rattle.knx_top.specs.commands.Migrate.{IsMigratedText}
 use Rattle.knx_top.specs.commands.Tables.{IsTablesText}
-use Rattle.knx_top.specs.commands.Sim.{failed_of_sim}
-use Rattle.call_parts.specs.Project.{failed_of_project}
-use Rattle.knx_top.specs.commands.Download.{project_named}
-use Rattle.knx_top.specs.commands.Gateway.{failed_of_gateway}
 
 -- ---- what was done, and then written
 
@@ -38,22 +33,8 @@ written (Big words) before after end Replied does replied = (made_written words 
 
 -- ---- what follows of the whole call
 
--- what a command doesn't touch
-pub line_of : (command : Option Command) (before after : Outside) (Replied : End → Type 0) → Does command before after Replied → (touches command).line ≡ false → after.line ≡ before.line
-line_of None before after Replied does untouched = does.2.line
-line_of (Some (Check words)) before after Replied does untouched = does.1.line
-line_of (Some (Tables words)) before after Replied does untouched = does.1.line
-line_of (Some (Migrate words)) before after Replied does untouched = does.1.line
-line_of (Some (Sim words)) before after Replied does untouched = absurd (let e : true ≡ false = untouched in cc)
-line_of (Some (Decode word)) before after Replied does untouched = does.2.line
-line_of (Some (Download words)) before after Replied does untouched = does.1
-line_of (Some (Gateway words)) before after Replied does untouched = absurd (let e : true ≡ false = untouched in cc)
-line_of (Some (Find words)) before after Replied does untouched = does.2.line
-line_of (Some (Assign words)) before after Replied does untouched = does.2.line
-line_of (Some (AssignSim words)) before after Replied does untouched = does.1.line
-line_of (Some (Big words)) before after Replied does untouched = absurd (let e : true ≡ false = untouched in cc)
-
-pub no_run_of : (command : Option Command) (before after : Outside) (Replied : End → Type 0) → Does command before after Replied → (touches command).run ≡ false → after.report ≡ None
+-- a command that begins no run reports none
+pub no_run_of : (command : Option Command) (before after : Outside) (Replied : End → Type 0) → Does command before after Replied → begins_run command ≡ false → after.report ≡ None
 no_run_of None before after Replied does untouched = does.2.report
 no_run_of (Some (Check words)) before after Replied does untouched = does.1.report
 no_run_of (Some (Tables words)) before after Replied does untouched = does.1.report
@@ -66,17 +47,3 @@ no_run_of (Some (Find words)) before after Replied does untouched = does.2.repor
 no_run_of (Some (Assign words)) before after Replied does untouched = does.2.report
 no_run_of (Some (AssignSim words)) before after Replied does untouched = does.1.report
 no_run_of (Some (Big words)) before after Replied does untouched = absurd (let e : true ≡ false = untouched in cc)
-
-pub faults_in : (command : Option Command) (before after : Outside) (Replied : End → Type 0) → Does command before after Replied → AtMostOneRose before.files.faults after.files.faults
-faults_in None before after Replied does = (None, does.1)
-faults_in (Some (Check words)) before after Replied does = (failed_of_project words does.0.texts, does.0.counts)
-faults_in (Some (Tables words)) before after Replied does = (failed_of_project words does.0.texts, does.0.counts)
-faults_in (Some (Migrate words)) before after Replied does = (failed_of_project words does.0.texts, does.0.counts)
-faults_in (Some (Sim words)) before after Replied does = (failed_of_sim words does.0.texts, does.0.counts)
-faults_in (Some (Decode word)) before after Replied does = (None, does.1)
-faults_in (Some (Download words)) before after Replied does = (failed_of_project (project_named words) does.0.texts, does.0.counts)
-faults_in (Some (Gateway words)) before after Replied does = (failed_of_gateway words does.0.texts, does.0.counts)
-faults_in (Some (Find words)) before after Replied does = (None, does.1)
-faults_in (Some (Assign words)) before after Replied does = (None, does.1)
-faults_in (Some (AssignSim words)) before after Replied does = (failed (Some words.units) does.0.reading, does.0.counts)
-faults_in (Some (Big words)) before after Replied does = (None, does.1)

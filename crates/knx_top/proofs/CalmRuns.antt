@@ -16,7 +16,8 @@ use Rattle.line_model.specs.StartOf.{is_on_bus}
 use Rattle.report_text.specs.LineStatus.{has_failure, status_of}
 use Rattle.knx_top.specs.Complete.{IsReportedWhole, IsRunServed, IsRunTold, IsWithinBounds, NothingDisturbs}
 use Rattle.call_parts.specs.Jobs.{ArePlanned}
-use Rattle.knx_top.specs.Ran.{Commission, Left, Ran, log_in}
+use Rattle.hub_core.specs.Commissioned.{log_of}
+use Rattle.knx_top.specs.Ran.{Commission, Left, Ran}
 use Rattle.knx_top.specs.Undisturbed.{EndsSo, IsUndisturbed}
 use Rattle.call_parts.specs.declared.ending.End.TheVariants as ends
 
@@ -50,7 +51,7 @@ module _ (c : Commission) (after : Left) (out out' : SinkNow) (ending : Status) 
     undisturbed : IsUndisturbed c.project c.before c.script ran.jobs
     undisturbed = record { says = quiet.says; devices = on_line c.project c.before ran.jobs whole.told.jobs ran.planned (quiet.devices whole.told.jobs ran.words_are) }
 
-    by_fault : (o : Option HubFault) → report.fault ≡ o → EndsSo ran.jobs c.turns after.line.run (log_in report) o → IsRunServed c after out out' ending
+    by_fault : (o : Option HubFault) → report.fault ≡ o → EndsSo ran.jobs c.turns after.line.run (log_of report) o → IsRunServed c after out out' ending
     by_fault None none served = inr (record {
       whole = whole;
       served = record { words = whole.told.jobs; are = ran.words_are; jobs = ran.jobs; planned = ran.planned; holds = served };

@@ -1,6 +1,5 @@
 -- A run that the workers of its words drive over the simulated line: what is promised of it, in the words of its commission.
-use Rattle.std.proofs.Common.{◌≡◌, ◌⊎◌, ◌≤◌, ℕ, inl, inr, List, [], ◌∷◌, ◌++◌, length, map, Option, Some, None, refl, sym, ap, ◌∙◌, subst, arith}
-use Rattle.std.specs.Prelude.{IfSome}
+use Rattle.std.proofs.Common.{◌≡◌, ◌⊎◌, ◌≤◌, ℕ, inl, inr, List, [], ◌∷◌, ◌++◌, length, map, Option, Some, refl, sym, ap, ◌∙◌, subst, arith}
 use Rattle.std.specs.List.{AllByRecursion}
 use Rattle.std.proofs.lemmas.List.{length-map}
 use Rattle.bus_sim.specs.Loaded.{BusNow}
@@ -9,18 +8,17 @@ use Rattle.bus_sim.specs.declared.clients.Clients.TheVariants.{One, Any}
 use Rattle.bus_sim.specs.Begun.{mode_of}
 use Rattle.bus_sim.specs.Ended.{FailsAtEnd, IsAtEnd}
 use Rattle.bus_sim.specs.RunNow.{RunNow, mode, script, start, story, story_of}
-use Rattle.hub_core.specs.Commissioned.{TellsRun, WantsAtFirst}
+use Rattle.hub_core.specs.Commissioned.{TellsRun, WantsAtFirst, log_of}
 use Rattle.hub_core.specs.Seen.{AreJobs, tasks_seen}
 use Rattle.hub_work.specs.declared.job.HubJob.{HubJob}
 use Rattle.hub_work.specs.Books.{AreJobsOf}
 use Rattle.hub_work.specs.Downloaders.{Task, task_of_hub_job}
 use Rattle.knx_model.specs.declared.address.IndAddr.{IndAddr}
-use Rattle.knx_model.specs.Outside.{Rose}
 use Rattle.line_model.specs.declared.fault.HubFault.{HubFault}
-use Rattle.line_model.specs.declared.fault.HubFault.TheVariants.{NoMemory, LinkFailed, GatewayRefused, Flooded, WrongLine}
+use Rattle.line_model.specs.declared.fault.HubFault.TheVariants.{NoMemory, LinkFailed}
 use Rattle.line_model.specs.declared.log.LogEntry.{LogEntry}
 use Rattle.line_model.specs.declared.log.Report.{Report}
-use Rattle.line_model.specs.declared.outside.link_counts.LinkCounts.{LinkCounts}
+use Rattle.line_model.specs.declared.outside.fault_counts.FaultCounts.{FaultCounts}
 use Rattle.line_model.specs.Follows.{Follows}
 use Rattle.line_model.specs.Fresh.{IsFresh}
 use Rattle.line_model.specs.Headline.{IsGoodJob, IsRight}
@@ -29,17 +27,16 @@ use Rattle.line_model.specs.declared.group.GroupTurn.{GroupTurn}
 use Rattle.line_model.specs.Lines.{Script, script_of}
 use Rattle.line_model.specs.LinkStory.{Full, Story}
 use Rattle.line_model.specs.Log.{Job}
-use Rattle.line_model.specs.Polled.{none_failed}
+use Rattle.line_model.specs.Polled.{after_fault, none_failed}
 use Rattle.line_model.specs.StartOf.{BusOf}
 use Rattle.line_model.specs.Tunnel.{Commissions}
 use Rattle.line_model.specs.World.{World, Event}
 use Rattle.tunnel_link.specs.Goes.{GoesOn}
-use Rattle.tunnel_link.specs.Rights.{FailsWhere}
 use Rattle.knx_top.specs.Begun.{IsOrder}
 use Rattle.call_parts.specs.Jobs.{seen_job}
 use Rattle.call_parts.specs.Options.{most_jobs}
 use Rattle.call_parts.specs.Turns.{most_turns}
-use Rattle.knx_top.specs.Ran.{HasCauseOnLine, HasThreeTries, IsRunOf, IsToldOver, KeepsPromises, Ran, log_in, Commission}
+use Rattle.knx_top.specs.Ran.{CountsOnLine, HasThreeTries, IsRunOf, IsToldOver, KeepsPromises, Ran, Commission}
 use Rattle.knx_top.specs.declared.commands.sim.judge.Order.{Order}
 use Rattle.knx_top.proofs.Meanings.{devices_mean, done_means}
 use Rattle.knx_top.proofs.Telegrams.{telegrams_by_project}
@@ -84,36 +81,31 @@ same_start before after one goes =
     one_start : (one other : World) (events more : List Event) → Full one events ≡ Full other more → one ≡ other
     one_start one other events more e = cc
 
--- ---- the link failed only at the end of the run, and had no memory only where its count of that rose, or nothing was done
+-- ---- a call of the line failed, or found no memory, exactly where that is told; and it failed only at the end of the run
 
-abbrev CausedOn : Report → BusNow → BusNow → HubFault → Type 0
-CausedOn report begun line fault = FailsWhere fault none_failed line.faults ⊎ (WantsAtFirst fault report × (line ≡ begun))
+-- of a run that began with no count, on a line where nothing had happened
+module _ (report : Report) (begun line : BusNow) (none : begun.faults ≡ none_failed) (new : begun.run.events ≡ []) (one : line.run.begun.clients ≡ One) (ends : FailsAtEnd line.faults.failed line.run) where
+  abbrev Told : Type 0
+  Told = (line.faults ≡ after_fault report.fault none_failed) ⊎ (WantsAtFirst report × (line.run.events ≡ []) × (line.faults ≡ none_failed))
 
-fails_last : (fault : HubFault) (report : Report) (begun line : BusNow) → begun.run.events ≡ [] → line.run.begun.clients ≡ One → FailsAtEnd line.faults.failed line.run → CausedOn report begun line fault → HasCauseOnLine report line fault
-fails_last LinkFailed report begun line new one ends (inr first) = absurd first.0.wants
-fails_last LinkFailed report begun line new one (inl none) (inl rose) = absurd (none_rose line.faults.failed none rose)
-  where
-    none_rose : (n : ℕ) → n ≡ 0 → Rose 0 n → ⊥
-    none_rose n none (inl more) = omega (arith, none, more)
-    none_rose n none (inr greatest) = omega (arith, none, greatest)
-fails_last LinkFailed report begun line new one (inr (inl end)) (inl rose) = (end, rose)
-fails_last LinkFailed report begun line new one (inr (inr serves)) (inl rose) = absurd (not_both (sym one ∙ serves))
-  where
-    not_both : One ≡ Any → ⊥
-    not_both e = cc
-fails_last (NoMemory want) report begun line new one ends (inl rose) = inl rose
-fails_last (NoMemory want) report begun line new one ends (inr first) = inr (first.0, ap (λ (b : BusNow). b.run.events) first.1 ∙ new)
-fails_last (GatewayRefused tries) report begun line new one ends cause = tt
-fails_last Flooded report begun line new one ends cause = tt
-fails_last (WrongLine device tunnel) report begun line new one ends cause = tt
+  told_by : (line.faults ≡ after_fault report.fault begun.faults) ⊎ (WantsAtFirst report × (line ≡ begun)) → Told
+  told_by (inl so) = inl (so ∙ ap (after_fault report.fault) none)
+  told_by (inr first) = inr (first.0, ap (λ (b : BusNow). b.run.events) first.1 ∙ new, ap (λ (b : BusNow). b.faults) first.1 ∙ none)
 
-pub faults_last : (told : Option HubFault) (report : Report) (before : LinkCounts) (begun line : BusNow) → before ≡ none_failed → begun.run.events ≡ [] → line.run.begun.clients ≡ One → FailsAtEnd line.faults.failed line.run
-    → IfSome told (λ fault. FailsWhere fault before line.faults ⊎ (WantsAtFirst fault report × (line ≡ begun))) → IfSome told (HasCauseOnLine report line)
-faults_last None report before begun line none new one ends cause = tt
-faults_last (Some fault) report before begun line none new one ends cause = fails_last fault report begun line new one ends (subst (λ (n : LinkCounts). FailsWhere fault n line.faults ⊎ (WantsAtFirst fault report × (line ≡ begun))) none cause)
+  not_both : One ≡ Any → ⊥
+  not_both e = cc
 
-failed_at_end : (told : Option HubFault) (report : Report) (line : BusNow) → IfSome told (HasCauseOnLine report line) → told ≡ Some LinkFailed → IsAtEnd line.run
-failed_at_end told report line cause failed = (subst (λ (o : Option HubFault). IfSome o (HasCauseOnLine report line)) failed cause).0
+  fails_last : FailsAtEnd line.faults.failed line.run → line.faults.failed ≡ 1 → IsAtEnd line.run
+  fails_last (inl never) failed = absurd (omega (arith, never, failed))
+  fails_last (inr (inl end)) failed = end
+  fails_last (inr (inr serves)) failed = absurd (not_both (sym one ∙ serves))
+
+  last_of : Told → report.fault ≡ Some LinkFailed → IsAtEnd line.run
+  last_of (inl so) failed = fails_last ends (ap (λ (n : FaultCounts). n.failed) (so ∙ ap (λ (o : Option HubFault). after_fault o none_failed) failed))
+  last_of (inr first) failed = absurd (let e : Some (NoMemory tt) ≡ Some LinkFailed = sym first.0.wants ∙ failed in cc)
+
+  pub counts_on_line : (line.faults ≡ after_fault report.fault begun.faults) ⊎ (WantsAtFirst report × (line ≡ begun)) → CountsOnLine report line
+  counts_on_line counts = record { counts = told_by counts; last = last_of (told_by counts) }
 
 -- ---- the premises, and what is promised
 
@@ -168,8 +160,8 @@ told_of workers plans turns after place report good tells tries =
 pub driven : (laws : Laws) (c : Commission) (order : Order) (workers : ℕ) (turns : List GroupTurn) (line : BusNow) (place : ℕ) (report : Report) → IsOrder c order → workers ≡ c.workers → turns ≡ c.turns → order.line.run.begun.clients ≡ One → GoesOn (story order.line.run) (story line.run) → script line.run ≡ script order.line.run
     → IsFresh (start line.run) → IsLegal (mode line.run) (start line.run) line.run.events → Follows (script line.run) (mode line.run) (start line.run) line.run.events
     → AllByRecursion IsGoodJob (map seen_job order.plans) → TellsRun workers (tasks_seen order.plans) (map (λ (job : HubJob). job.device) order.plans) turns (story line.run) place report
-    → HasThreeTries report.fault → IfSome report.fault (HasCauseOnLine report line) → Ran c line.run report order.jobs
-driven laws c order workers turns line place report is by sends one goes says fresh legal follows good tells tries cause =
+    → HasThreeTries report.fault → CountsOnLine report line → Ran c line.run report order.jobs
+driven laws c order workers turns line place report is by sends one goes says fresh legal follows good tells tries counts =
     let jobs : List Job = map seen_job order.plans in
     let whole : story line.run ≡ Full (start line.run) line.run.events = told_whole order.line.run line.run one goes in
     let in_run : mode line.run ≡ Commissions = ap mode_of (still_one order.line.run line.run one goes) in
@@ -178,8 +170,7 @@ driven laws c order workers turns line place report is by sends one goes says fr
     let over : IsToldOver workers turns jobs (Full (start line.run) line.run.events) report = subst (λ s. IsToldOver workers turns jobs s report) whole (told_of workers order.plans turns (story line.run) place report good tells tries) in
     let told : IsToldOver c.workers c.turns jobs (Full (start line.run) line.run.events) report =
     subst (λ (ts : List GroupTurn). IsToldOver c.workers ts jobs (Full (start line.run) line.run.events) report) sends (subst (λ (n : ℕ). IsToldOver n turns jobs (Full (start line.run) line.run.events) report) by over) in
-    let promises : KeepsPromises c jobs line.run (log_in report) = keeps_promises c order line.run (log_in report) is run told.right in
-    let last : (report.fault ≡ Some LinkFailed → IsAtEnd line.run) = failed_at_end report.fault report line cause in
+    let promises : KeepsPromises c jobs line.run (log_of report) = keeps_promises c order line.run (log_of report) is run told.right in
     let few_jobs : length jobs ≤ most_jobs = omega (arith, length-map order.plans seen_job, is.prepared.few) in
     let few_turns : length c.turns ≤ most_turns = omega (arith, ap length is.turns, ap length is.prepared.turns, is.prepared.few_turns) in
     record {
@@ -191,5 +182,5 @@ driven laws c order workers turns line place report is by sends one goes says fr
       few_turns = few_turns;
       promises = promises;
       told = told;
-      undisturbed = λ u. nothing_fails laws c line.run report order.jobs jobs is.prepared.plans few_jobs few_turns run promises told last u;
+      undisturbed = λ u. nothing_fails laws c line.run report order.jobs jobs is.prepared.plans few_jobs few_turns run promises told counts.last u;
     }

@@ -50,7 +50,8 @@ use Rattle.report_text.specs.LineStatus.{EachDone, is_done, status_of}
 use Rattle.knx_top.specs.Complete.{IsLoadedWhole, IsReportedWhole, IsRunTold, counts_made}
 use Rattle.call_parts.specs.Jobs.{ArePlanned, IsPlanned, load_of}
 use Rattle.call_parts.specs.OnLine.{on_bus}
-use Rattle.knx_top.specs.Ran.{Commission, Left, Ran, log_in}
+use Rattle.hub_core.specs.Commissioned.{log_of}
+use Rattle.knx_top.specs.Ran.{Commission, Left, Ran}
 use Rattle.knx_top.specs.Shown.{AreShown, IsCase, IsNew, IsOld, IsStopped, IsShown, RunsNew}
 use Rattle.knx_top.specs.Undisturbed.{AllServed, EndsSo, IsUndisturbed}
 use Rattle.call_parts.specs.Host.{unless_zero}
@@ -191,7 +192,7 @@ module _ (words : BigWords) (some : 1 â‰¤ words.devices) (few : words.devices â‰
     undisturbed = record { says = refl; devices = on_line p nothing ran.jobs (map load_of devices) planned (all_on words some few devices ran.words_are.all) }
 
     abbrev log : List LogEntry
-    log = log_in report
+    log = log_of report
 
     served_by : EndsSo ran.jobs c.turns r log report.fault
     served_by = (ran.undisturbed undisturbed).ends

@@ -1,22 +1,22 @@
 -- A line that was served at a port, once the port was handed back.
-use Rattle.std.proofs.Common.{◌≡◌, ◌<◌, ◌≤◌, List, [], ◌∷◌, Option, None, Some, Result, Ok, Err, refl, sym, ap, ◌∙◌, subst, inl, inr, ◌⊎◌, ℕ}
-use Rattle.std.specs.Prelude.{IfErr, IfOk, OnErr, OnOk}
+use Rattle.std.proofs.Common.{◌≡◌, ◌<◌, List, [], ◌∷◌, Option, None, Some, Result, Ok, Err, refl, sym, ap, ◌∙◌, subst, inl, inr, ◌⊎◌, ℕ, arith}
+use Rattle.std.specs.Prelude.{IfOk, OnErr}
 use Rattle.bus_sim.specs.declared.beginning.Beginning.{Beginning}
 use Rattle.bus_sim.specs.declared.serve.Served.{Served}
 use Rattle.bus_sim.specs.declared.serve.Served.TheVariants as served
 use Rattle.bus_sim.specs.Begun.{mode_in}
 use Rattle.bus_sim.specs.Loaded.{BusNow}
 use Rattle.bus_sim.specs.RunNow.{RunNow, mode, script, start}
-use Rattle.bus_sim.specs.Serving.{AddsAll, BeforeTurn, BreaksOff, FailsAt, ServedSo, served_beginning}
+use Rattle.bus_sim.specs.Serving.{AddsAll, BeforeTurn, BreaksOff, CountsServing, ServedSo, served_beginning}
 use Rattle.discovery.specs.declared.about.About.{About}
 use Rattle.discovery_ends.specs.Answering.{AllAnswered, HasNoRequest, answerer_story, faults_with, shown_story}
 use Rattle.discovery_ends.specs.Naming.{named_story}
 use Rattle.knx_model.specs.Outside.{one_more}
-use Rattle.line_model.specs.declared.outside.link_counts.LinkCounts.{LinkCounts}
+use Rattle.line_model.specs.declared.outside.fault_counts.FaultCounts.{FaultCounts}
 use Rattle.line_model.specs.Polled.{none_failed}
 use Rattle.line_model.specs.declared.outside.port.PortFault.{PortFault}
 use Rattle.line_model.specs.declared.outside.port.PortFault.TheVariants as fault
-use Rattle.line_model.specs.Dialled.{Address, DialerNow, TakesBack, Tells}
+use Rattle.line_model.specs.Dialled.{Address, DialerNow, Tells, with_port}
 use Rattle.line_model.specs.Follows.{Follows}
 use Rattle.line_model.specs.Fresh.{IsFresh}
 use Rattle.line_model.specs.Legal.{IsLegal}
@@ -26,11 +26,11 @@ use Rattle.line_model.specs.StartOf.{BusOf, tunnel_address}
 use Rattle.line_model.specs.Tunnel.{Mode, Serves as AtPort}
 use Rattle.line_model.specs.World.{World, Event}
 use Rattle.knx_top.specs.Begun.{BeginsLine}
-use Rattle.knx_top.proofs.Answered.{added_below, breaks_below, by_added, if_cause_below, none_below, so_below}
+use Rattle.knx_top.proofs.Answered.{added_below, breaks_below, by_added, counts_below, none_below, so_below}
 use Rattle.knx_top.proofs.DialledRuns.{to_address}
 use Rattle.call_parts.specs.Identity.{about_gateway, own_endpoint}
 use Rattle.call_parts.specs.declared.ending.ServiceEnd.{ServiceEnd}
-use Rattle.knx_top.specs.commands.Gateway.{end_of_serving, HasCause, IsBrokenOff, IsServed, ServedRun, Service, ServesTo, Serving, unless_failed}
+use Rattle.knx_top.specs.commands.Gateway.{CountsService, end_of_serving, IsBrokenOff, IsServed, ServedRun, Service, ServesTo, Serving, unless_failed}
 
 -- ---- a serving in which an answer failed broke off so, if not otherwise
 
@@ -57,26 +57,13 @@ module _ (turns : ℕ) (began r : RunNow) (new_port port : PortStory) where
   broken_unless None (Err why) so broken = broken
   broken_unless (Some other) (Err why) so broken = broken
 
-sound_unless : (P : Type 0) (failed : Option PortFault) (result : Result Served PortFault) → OnOk result P → OnOk (unless_failed failed result) P
-sound_unless P None (Ok as_served) h = h
-sound_unless P (Some why) (Ok as_served) h = tt
-sound_unless P None (Err why) h = tt
-sound_unless P (Some other) (Err why) h = tt
-
-still_failed : (result : Result Served PortFault) (line begun : BusNow) → OnOk result (line.faults ≡ begun.faults) → OnOk result (line.faults.failed ≡ begun.faults.failed)
-still_failed (Ok as_served) line begun still = ap (λ (n : LinkCounts). n.failed) still
-still_failed (Err why) line begun still = tt
-
-failed_so : (why : PortFault) (faults faults' : ℕ) (begun line : BusNow) → faults ≡ 0 → (why ≡ fault.Failed → 0 < faults') → line.faults.failed ≡ begun.faults.failed → FailsAt why faults faults' begun.faults.failed line.faults.failed line.run
-failed_so (fault.NoMemory want) faults faults' begun line unfailed broke still = still
-failed_so fault.Failed faults faults' begun line unfailed broke still = inl (inl (rw unfailed (broke refl)), still)
-
-cause_unless : (failed : Option PortFault) (result : Result Served PortFault) (faults faults' : ℕ) (begun line : BusNow) → faults ≡ 0 → (failed ≡ Some fault.Failed → 0 < faults') → OnOk result (line.faults.failed ≡ begun.faults.failed)
-    → IfErr result (λ why. FailsAt why faults faults' begun.faults.failed line.faults.failed line.run) → IfErr (unless_failed failed result) (λ why. FailsAt why faults faults' begun.faults.failed line.faults.failed line.run)
-cause_unless None (Ok as_served) faults faults' begun line unfailed broke still cause = tt
-cause_unless (Some why) (Ok as_served) faults faults' begun line unfailed broke still cause = failed_so why faults faults' begun line unfailed (λ e. broke (ap Some e)) still
-cause_unless None (Err why) faults faults' begun line unfailed broke still cause = cause
-cause_unless (Some other) (Err why) faults faults' begun line unfailed broke still cause = cause
+-- a call of the port failed where the answer did, but for want of memory
+counts_unless : (failed : Option PortFault) (result : Result Served PortFault) (port : ℕ) (old line : FaultCounts) (r : RunNow) → (failed ≡ Some fault.Failed → 0 < port) → CountsServing result 0 port old line r → CountsServing (unless_failed failed result) 0 port old line r
+counts_unless None (Ok as_served) port old line r broke h = h
+counts_unless (Some (fault.NoMemory want)) (Ok as_served) port old line r broke h = h
+counts_unless (Some fault.Failed) (Ok as_served) port old line r broke h = absurd (let some : 0 < port = broke refl in let none : port ≡ 0 = h.0 in omega (arith, some, none))
+counts_unless None (Err why) port old line r broke h = h
+counts_unless (Some other) (Err why) port old line r broke h = h
 
 is_broken : (turns : ℕ) (why : PortFault) → IsBrokenOff (end_of_serving turns (Err why))
 is_broken turns fault.Failed = tt
@@ -96,13 +83,13 @@ serves_to turns (Ok served.OpenTurns) began r new_port port so broken = (refl, s
 serves_to turns (Err fault.Failed) began r new_port port so broken = broken
 serves_to turns (Err (fault.NoMemory want)) began r new_port port so broken = inl broken
 
-has_cause : (turns : ℕ) (result : Result Served PortFault) (port port' began : ℕ) (line : BusNow) → port ≡ 0 → began ≡ 0 → IfErr result (λ why. FailsAt why port port' began line.faults.failed line.run) → OnOk result (line.faults.failed ≡ began)
-    → HasCause (end_of_serving turns result) port' line
-has_cause turns (Ok served.Ended) port port' began line unfailed sound cause still = still ∙ sound
-has_cause turns (Ok served.OpenTurns) port port' began line unfailed sound cause still = still ∙ sound
-has_cause turns (Err fault.Failed) port port' began line unfailed sound cause still =
-    subst (λ (n : ℕ). FailsAt fault.Failed n port' 0 line.faults.failed line.run) unfailed (subst (λ (n : ℕ). FailsAt fault.Failed port port' n line.faults.failed line.run) sound cause)
-has_cause turns (Err (fault.NoMemory want)) port port' began line unfailed sound cause still = cause ∙ sound
+-- the dialer's counts take in the port's, of whose calls none had failed before
+service_counts : (turns : ℕ) (result : Result Served PortFault) (port : ℕ) (before : FaultCounts) (line : BusNow) → CountsServing result 0 port none_failed line.faults line.run → CountsService (end_of_serving turns result) before (with_port port before) line
+service_counts turns (Ok served.Ended) port before line h = (ap (λ (n : ℕ). with_port n before) h.0, h.1)
+service_counts turns (Ok served.OpenTurns) port before line h = (ap (λ (n : ℕ). with_port n before) h.0, h.1)
+service_counts turns (Err (fault.NoMemory want)) port before line h = (ap (λ (n : ℕ). with_port n before) h.0, h.1)
+service_counts turns (Err fault.Failed) port before line (inl h) = inl (ap (λ (n : ℕ). with_port n before) h.0, h.1)
+service_counts turns (Err fault.Failed) port before line (inr h) = inr (ap (λ (n : ℕ). with_port n before) h.0, h.1, h.2)
 
 -- ---- the line is one where clients come to a port, or nothing happened on it
 
@@ -149,26 +136,24 @@ is_served s began r begins same says fresh legal follows at = record {
 -- ---- the serving, and the port that comes back
 
 module _ (s : Service) (turns : ℕ) (result : Result Served PortFault) (begun line : BusNow) (own own' : List ℕ) (about about' : About) (failed : Option PortFault) (new_port port port_back : PortStory) where
-  pub serving : (faults faults' refused since after : ℕ) (end : ServiceEnd) → BeginsLine s.before s.before s.script begun.run → s.turns ≡ turns → own ≡ own_endpoint s.at → about ≡ about_gateway (tunnel_address s.before)
+  pub serving : (faults faults' refused : ℕ) (before after : FaultCounts) (end : ServiceEnd) → BeginsLine s.before s.before s.script begun.run → s.turns ≡ turns → own ≡ own_endpoint s.at → about ≡ about_gateway (tunnel_address s.before)
       → IsNewPort new_port → faults ≡ 0 → begun.faults ≡ none_failed
       → IfOk result (λ as_served. ServedSo as_served turns begun.run line.run (answerer_story own about None new_port) (answerer_story own' about' failed port))
       → OnErr result (BreaksOff turns begun.run line.run (answerer_story own about None new_port) (answerer_story own' about' failed port))
-      → IfErr result (λ why. FailsAt why (faults_with faults 0) (faults_with faults' refused) begun.faults.failed line.faults.failed line.run) → OnOk result (line.faults ≡ begun.faults)
+      → CountsServing result (faults_with faults 0) (faults_with faults' refused) begun.faults line.faults line.run
       → start line.run ≡ start begun.run → script line.run ≡ script begun.run → IsFresh (start line.run) → IsLegal (mode line.run) (start line.run) line.run.events → Follows (script line.run) (mode line.run) (start line.run) line.run.events
-      → AllAnswered about' failed (named_story own' port) → (failed ≡ Some fault.Failed → 0 < faults') → (0 < refused → 0 < faults') → port_back ≡ port → TakesBack faults' since after
-      → end ≡ end_of_serving turns (unless_failed failed result) → Serving s line port_back since after end
-  serving faults faults' refused since after end begins most named tells new unfailed none_yet so broken cause stands same says fresh legal follows answered broke refuses told taken ended =
+      → AllAnswered about' failed (named_story own' port) → (failed ≡ Some fault.Failed → 0 < faults') → (0 < refused → 0 < faults') → port_back ≡ port → after ≡ with_port faults' before
+      → end ≡ end_of_serving turns (unless_failed failed result) → Serving s line port_back before after end
+  serving faults faults' refused before after end begins most named tells new unfailed none_yet so broken counts same says fresh legal follows answered broke refuses told taken ended =
       let below : PortStory = shown_story about failed (named_story own port) in
-      let sound : begun.faults.failed ≡ 0 = ap (λ (n : LinkCounts). n.failed) none_yet in
-      let still : OnOk result (line.faults.failed ≡ begun.faults.failed) = still_failed result line begun stands in
       let added : (items : List PortItem) → AddsAll items (answerer_story own about None new_port) (answerer_story own' about' failed port) → AddsAll items new_port below = λ items h. added_below own own' about about' failed items new_port port new h in
       let now : Result Served PortFault = unless_failed failed result in
       let so_far : IfOk result (λ as_served. ServedSo as_served turns begun.run line.run new_port below) = so_below turns begun.run line.run _ _ new_port below added result so in
       let served_so : IfOk now (λ as_served. ServedSo as_served turns begun.run line.run new_port below) = served_unless turns begun.run line.run new_port below failed result so_far in
       let broken_so : OnErr now (BreaksOff turns begun.run line.run new_port below) =
       broken_unless turns begun.run line.run new_port below failed result so_far (breaks_below turns begun.run line.run _ _ new_port below added result broken) in
-      let caused_so : IfErr now (λ why. FailsAt why faults faults' begun.faults.failed line.faults.failed line.run) =
-      cause_unless failed result faults faults' begun line unfailed broke still (if_cause_below result faults faults' refused begun.faults.failed line.faults.failed line.run unfailed refuses cause) in
+      let counted : CountsServing now 0 faults' none_failed line.faults line.run =
+      counts_unless failed result faults' none_failed line.faults line.run broke (counts_below result faults' refused none_failed line.faults line.run refuses (rw (unfailed, none_yet) at counts)) in
       let none : HasNoRequest below = by_added turns begun.run line.run _ _ (HasNoRequest below) (λ items h. none_below own own' about about' failed items new_port port new h answered) result so broken in
       record {
         run = is_served s begun.run line.run begins same says fresh legal follows (is_at_port turns now begun.run line.run new_port below begins.nothing served_so broken_so);
@@ -180,20 +165,16 @@ module _ (s : Service) (turns : ℕ) (result : Result Served PortFault) (begun l
         broke = rw ended (broke_off turns failed result);
         answered = rw (told, ← named, ← tells) none;
         serves = rw (told, ended, most, ← named, ← tells) (serves_to turns now begun.run line.run new_port below served_so broken_so);
-        faults = faults';
-        taken = taken;
-        cause = rw ended (has_cause turns now faults faults' begun.faults.failed line unfailed sound caused_so (sound_unless _ failed result still));
+        counts = rw (ended, taken) (service_counts turns now faults' before line counted);
       }
 
 -- ---- the port was bound
 
--- a bind gave a port, and the serving there told this
-pub bound : (s : Service) (at : Address) (faults : ℕ) (given : Option Address) (before after : DialerNow) (line : BusNow) (end : ServiceEnd) → s.at ≡ at → before.faults ≤ faults → Tells at.host at.port given → after.given ≡ given → after.dials ≡ one_more before.dials
-    → Serving s line after.port_back faults after.faults end → ServedRun s before after line end
-bound s at faults given before after line end same count tells stays once told = record {
+-- a bind gave a port, and has counted nothing; the serving there told this
+pub bound : (s : Service) (at : Address) (counts : FaultCounts) (given : Option Address) (before after : DialerNow) (line : BusNow) (end : ServiceEnd) → s.at ≡ at → counts ≡ before.counts → Tells at.host at.port given → after.given ≡ given → after.dials ≡ one_more before.dials
+    → Serving s line after.port_back counts after.counts end → ServedRun s before after line end
+bound s at counts given before after line end same still tells stays once told = record {
   given = subst (λ (address : Option Address). Tells s.at.host s.at.port address) (sym stays) (to_address s.at at given same tells);
   once = once;
-  since = faults;
-  count = count;
-  serving = told;
+  serving = subst (λ (n : FaultCounts). Serving s line after.port_back n after.counts end) still told;
 }

@@ -94,12 +94,12 @@ runs_so c before after report jobs turns devices log (ends.Assigns given) ran co
 -- it is told with the same fault
 pub fault_so : (r : RunNow) (report : Report) (jobs : List JobWord) (turns : ℕ) (devices : List (IndAddr × Option Image)) (log : Bool) (end : End) (after : BusNow) → ShowsRun r report jobs turns devices log end
     → FaultsOfLine (Some report) after → FaultsOfLine (report_in end) after
-fault_so r report jobs turns devices log (ends.Stops why) after shows cause = absurd shows
-fault_so r report jobs turns devices log (ends.Tells text) after shows cause = absurd shows
-fault_so r report jobs turns devices log ends.NotOpened after shows cause = absurd shows
-fault_so r report jobs turns devices log (ends.BreaksOff told want) after shows cause = subst (λ (told : Report). FaultsOfLine (Some told) after) (sym shows) cause
-fault_so r report jobs turns devices log (ends.Reports told) after shows cause = subst (λ (told : Report). FaultsOfLine (Some told) after) (sym shows.0) cause
-fault_so r report jobs turns devices log (ends.Sums told counts) after shows cause = absurd shows
-fault_so r report jobs turns devices log (ends.Serves served) after shows cause = absurd shows
-fault_so r report jobs turns devices log (ends.Finds searched) after shows cause = absurd shows
-fault_so r report jobs turns devices log (ends.Assigns given) after shows cause = absurd shows
+fault_so r report jobs turns devices log (ends.Stops why) after shows counts = absurd shows
+fault_so r report jobs turns devices log (ends.Tells text) after shows counts = absurd shows
+fault_so r report jobs turns devices log ends.NotOpened after shows counts = absurd shows
+fault_so r report jobs turns devices log (ends.BreaksOff told want) after shows counts = subst (λ (told : Report). FaultsOfLine (Some told) after) (sym shows) counts
+fault_so r report jobs turns devices log (ends.Reports told) after shows counts = subst (λ (told : Report). FaultsOfLine (Some told) after) (sym shows.0) counts
+fault_so r report jobs turns devices log (ends.Sums told sums) after shows counts = absurd shows
+fault_so r report jobs turns devices log (ends.Serves served) after shows counts = absurd shows
+fault_so r report jobs turns devices log (ends.Finds searched) after shows counts = absurd shows
+fault_so r report jobs turns devices log (ends.Assigns given) after shows counts = absurd shows

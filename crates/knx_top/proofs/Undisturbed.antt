@@ -60,7 +60,8 @@ use Rattle.table_compiler.proofs.Unique.{one_image}
 use Rattle.knx_top.proofs.Meanings.{planned_of}
 use Rattle.call_parts.specs.Options.{most_jobs}
 use Rattle.call_parts.specs.Turns.{most_turns}
-use Rattle.knx_top.specs.Ran.{Commission, IsRunOf, IsToldOver, KeepsPromises, log_in}
+use Rattle.hub_core.specs.Commissioned.{log_of}
+use Rattle.knx_top.specs.Ran.{Commission, IsRunOf, IsToldOver, KeepsPromises}
 use Rattle.knx_top.specs.Undisturbed.{IsUndisturbed, AllServed, EndsSo, FloodsSo, NothingFails}
 use Rattle.knx_top.proofs.Unflooded.{ChecksCost, LoadsCost, unflooded}
 use Rattle.knx_top.proofs.Unbroken.{no_three, none_elsewhere, none_wrong}
@@ -207,7 +208,7 @@ each_asked : (jobs : List Job) (turns : List GroupTurn) (log : List LogEntry) (p
 each_asked jobs turns log [] h = tt
 each_asked jobs turns log (p ∷ older) h = (h.0.asks, each_asked jobs turns log older h.1)
 
-client : (c : Commission) (jobs : List Job) (r : RunNow) (report : Report) → IsRunOf c r → IsToldOver c.workers c.turns jobs (Full (start r) r.events) report → IsPromptClient jobs c.turns (start r) r.events (log_in report)
+client : (c : Commission) (jobs : List Job) (r : RunNow) (report : Report) → IsRunOf c r → IsToldOver c.workers c.turns jobs (Full (start r) r.events) report → IsPromptClient jobs c.turns (start r) r.events (log_of report)
 client c jobs r report run told = record {
   safe = record {
     fresh = run.fresh;
@@ -218,7 +219,7 @@ client c jobs r report run told = record {
       truly = told.keeps.disciplined.truly;
       renews = told.keeps.disciplined.renews;
       sends = told.keeps.disciplined.sends;
-      asks = each_asked jobs c.turns (log_in report) (placed (start r) r.events) told.keeps.disciplined.asks.each;
+      asks = each_asked jobs c.turns (log_of report) (placed (start r) r.events) told.keeps.disciplined.asks.each;
     };
   };
   ends = told.thorough.ends;
@@ -279,7 +280,7 @@ pub record Laws : Type 0 where
   pub load_costs : LoadsCost
   pub check_costs : ChecksCost
 
-module _ (laws : Laws) (c : Commission) (r : RunNow) (report : Report) (words : List JobWord) (jobs : List Job) (planned : ArePlanned c.project jobs words) (few_jobs : length jobs ≤ most_jobs) (few_turns : length c.turns ≤ most_turns) (run : IsRunOf c r) (promises : KeepsPromises c jobs r (log_in report)) (told : IsToldOver c.workers c.turns jobs (Full (start r) r.events) report) (last : report.fault ≡ Some LinkFailed → IsAtEnd r) where
+module _ (laws : Laws) (c : Commission) (r : RunNow) (report : Report) (words : List JobWord) (jobs : List Job) (planned : ArePlanned c.project jobs words) (few_jobs : length jobs ≤ most_jobs) (few_turns : length c.turns ≤ most_turns) (run : IsRunOf c r) (promises : KeepsPromises c jobs r (log_of report)) (told : IsToldOver c.workers c.turns jobs (Full (start r) r.events) report) (last : report.fault ≡ Some LinkFailed → IsAtEnd r) where
   answered : AllByRecursion IsAnsweredRightly jobs
   answered = all_answered c.project jobs words planned
 
@@ -293,7 +294,7 @@ module _ (laws : Laws) (c : Commission) (r : RunNow) (report : Report) (words : 
     devices : HasDevices jobs (start r)
     devices = has_devices c.project c.before (script_of c.script) (start r) run.begins u.says jobs u.devices
 
-    by : IsPromptClient jobs c.turns (start r) r.events (log_in report)
+    by : IsPromptClient jobs c.turns (start r) r.events (log_of report)
     by = client c jobs r report run told
 
     calm : AreCalm (start r) r.events
@@ -302,53 +303,53 @@ module _ (laws : Laws) (c : Commission) (r : RunNow) (report : Report) (words : 
     each_served : AllByRecursion IsServedJob jobs
     each_served = all_served c.project jobs words planned
 
-    idle : IsPrompt jobs (start r) (log_in report) r.events
-    idle = laws.prompt jobs c.turns (start r) r.events (log_in report) each_served devices power by calm short
+    idle : IsPrompt jobs (start r) (log_of report) r.events
+    idle = laws.prompt jobs c.turns (start r) r.events (log_of report) each_served devices power by calm short
 
-    well : EndWell jobs (log_in report)
-    well = laws.ended jobs c.turns (start r) r.events (log_in report) each_served devices power by calm short
+    well : EndWell jobs (log_of report)
+    well = laws.ended jobs c.turns (start r) r.events (log_of report) each_served devices power by calm short
 
-    exactly : ChecksExactly jobs (start r) (log_in report)
+    exactly : ChecksExactly jobs (start r) (log_of report)
     exactly =
-        laws.checks jobs c.turns (start r) r.events (log_in report) each_served devices power by calm short promises.devices.untouched promises.devices.stays
-        (runs_where_done c.project jobs words planned (start r) r.events (log_in report) promises.done) answered (have_one_image c.project jobs words planned)
+        laws.checks jobs c.turns (start r) r.events (log_of report) each_served devices power by calm short promises.devices.untouched promises.devices.stays
+        (runs_where_done c.project jobs words planned (start r) r.events (log_of report) promises.done) answered (have_one_image c.project jobs words planned)
 
-    over : report.fault ≡ None → (k : ℕ) (job : Job) → job_of jobs k ≡ Some job → state_of k (log_in report) ≡ Over
+    over : report.fault ≡ None → (k : ℕ) (job : Job) → job_of jobs k ≡ Some job → state_of k (log_of report) ≡ Over
     over none k job is = told.ended none k (some_is_there jobs k job is)
 
-    served : report.fault ≡ None → AllServed jobs c.turns (start r) (log_in report)
+    served : report.fault ≡ None → AllServed jobs c.turns (start r) (log_of report)
     served none = record {
       loads = λ k job is loads. well.answered k job is ((of_job IsAnsweredRightly jobs k job answered is).load loads) (over none k job is);
       checks = λ k job is checks. exactly k job is checks (over none k job is);
-      telegrams = each_sent c.turns (log_in report) idle.nothing_failed (told.sent none);
+      telegrams = each_sent c.turns (log_of report) idle.nothing_failed (told.sent none);
     }
 
     abbrev record_now : List Entry
     record_now = record_of (start r) r.events
 
     never_refused : (three : List Try) → length three ≡ 3 → tries record_now ≡ reverse three → ⊥
-    never_refused three are = no_three three (tries record_now) are (laws.reached jobs c.turns (start r) r.events (log_in report) each_served devices power by calm short)
+    never_refused three are = no_three three (tries record_now) are (laws.reached jobs c.turns (start r) r.events (log_of report) each_served devices power by calm short)
 
     on_its_line : first_elsewhere jobs (first_tunnel record_now) ≡ None
     on_its_line =
         none_elsewhere c.project c.before jobs u.devices (first_tunnel record_now)
         (subst (λ (a : IndAddr). IfSome (first_tunnel record_now) (λ tunnel. tunnel ≡ a)) (ap (λ (t : Tunnel). t.gateway.tunnel) run.begins.tunnel) (laws.told (start r) r.events run.fresh run.legal))
 
-    ends : (o : Option HubFault) → report.fault ≡ o → FaultRight jobs (log_in report) record_now o → EndsSo jobs c.turns r (log_in report) o
+    ends : (o : Option HubFault) → report.fault ≡ o → FaultRight jobs (log_of report) record_now o → EndsSo jobs c.turns r (log_of report) o
     ends None e right = served e
     ends (Some (NoMemory want)) e right = tt
     ends (Some Flooded) e right = by_reads (some_reads c.turns) refl
       where
-        by_reads : (b : Bool) → some_reads c.turns ≡ b → FloodsSo jobs c.turns r (log_in report)
+        by_reads : (b : Bool) → some_reads c.turns ≡ b → FloodsSo jobs c.turns r (log_of report)
         by_reads true some = (some, right)
-        by_reads false none = absurd (unflooded c.project jobs words c.turns r (log_in report) planned few_jobs few_turns told.leaves laws.load_costs laws.check_costs (laws.unread jobs c.turns (start r) r.events (log_in report) each_served devices power by calm short none) right)
+        by_reads false none = absurd (unflooded c.project jobs words c.turns r (log_of report) planned few_jobs few_turns told.leaves laws.load_costs laws.check_costs (laws.unread jobs c.turns (start r) r.events (log_of report) each_served devices power by calm short none) right)
     ends (Some LinkFailed) e right = last e
     ends (Some (GatewayRefused three)) e right = never_refused three (told.tries three e) right
     ends (Some (WrongLine device tunnel)) e right = none_wrong jobs record_now device tunnel on_its_line right
 
-    pub nothing_fails : NothingFails jobs c.turns r (log_in report) report.fault
+    pub nothing_fails : NothingFails jobs c.turns r (log_of report) report.fault
     nothing_fails = record {
       prompt = idle;
-      refuses = laws.refuses jobs c.turns (start r) r.events (log_in report) each_served devices power by calm short;
+      refuses = laws.refuses jobs c.turns (start r) r.events (log_of report) each_served devices power by calm short;
       ends = ends report.fault refl told.fault;
     }

@@ -25,7 +25,7 @@ use Rattle.call_parts.specs.Project.{ProjectIsRead, ProjectWords, project_told}
 use Rattle.call_parts.specs.Stops.{project_in}
 use Rattle.call_parts.proofs.Stops.{passed, unless_stopped}
 use Rattle.knx_top.specs.Begun.{IsOrder, OrderFor}
-use Rattle.knx_top.specs.Call.{touches}
+use Rattle.knx_top.specs.Call.{begins_run}
 use Rattle.knx_top.specs.Command.{Command}
 use Rattle.knx_top.specs.Command as asked
 use Rattle.knx_top.specs.Ran.{Commission}
@@ -75,9 +75,9 @@ by_run : (Tells : Report → Watch → Watch → Type 0) (b : Bool) (report : Op
 by_run Tells true report before after none same tells = tells refl
 by_run Tells false report before after none same tells = subst (λ (o : Option Report). WhereRun Tells o before after) (sym (none refl)) (same refl)
 
-pub watches_of : (command : Option Command) (file : List ℕ → FileContent) (report : Option Report) (before after : Watch) → ((touches command).run ≡ false → report ≡ None) → ((touches command).run ≡ false → after ≡ before)
-    → ((touches command).run ≡ true → WhereRun (TellsOfRun command file) report before after) → WhereRun (TellsOfRun command file) report before after
-watches_of command file report before after none same tells = by_run (TellsOfRun command file) (touches command).run report before after none same tells
+pub watches_of : (command : Option Command) (file : List ℕ → FileContent) (report : Option Report) (before after : Watch) → (begins_run command ≡ false → report ≡ None) → (begins_run command ≡ false → after ≡ before)
+    → (begins_run command ≡ true → WhereRun (TellsOfRun command file) report before after) → WhereRun (TellsOfRun command file) report before after
+watches_of command file report before after none same tells = by_run (TellsOfRun command file) (begins_run command) report before after none same tells
 
 -- ---- what a commission told, as it is said of a call
 

@@ -1,4 +1,4 @@
--- What a call of the program touches, reads and does, by what its words ask for.
+-- What a call of the program reaches, reads and does, by what its words ask for.
 use Rattle.std.specs.Prelude.{ℕ, Bool, true, false, List, [], ◌∷◌, None, Option, Some, ◌≡◌}
 use Rattle.bus_sim.specs.Loaded.{BusNow}
 use Rattle.address_sim.specs.Driven.{BusNow as UnitsNow}
@@ -23,32 +23,27 @@ use Rattle.call_parts.specs.Project.{TellsOfProject, files_of_project}
 use Rattle.call_words.specs.declared.stop.Stop.TheVariants as stop
 use Rattle.call_parts.specs.declared.ending.End.TheVariants as ends
 
--- ---- what it touches and reads
+-- ---- what it reaches and reads
 
--- the simulated line, which it begins anew; a network, which it reaches; and a run, which it begins
-pub record Touches : Type 0 where
-  pub line : Bool
-  pub network : Bool
-  pub run : Bool
+-- it reaches a network
+abbrev pub reaches_network : Option Command → Bool
+reaches_network (Some (Download words)) = true
+reaches_network (Some (Gateway words)) = true
+reaches_network (Some (Find words)) = true
+reaches_network (Some (Assign words)) = true
+reaches_network _ = false
 
-abbrev pub touches : Option Command → Touches
-touches None = record { line = false; network = false; run = false }
-touches (Some (Check words)) = record { line = false; network = false; run = false }
-touches (Some (Tables words)) = record { line = false; network = false; run = false }
-touches (Some (Migrate words)) = record { line = false; network = false; run = false }
-touches (Some (Sim words)) = record { line = true; network = false; run = true }
-touches (Some (Decode word)) = record { line = false; network = false; run = false }
-touches (Some (Download words)) = record { line = false; network = true; run = true }
-touches (Some (Gateway words)) = record { line = true; network = true; run = false }
-touches (Some (Find words)) = record { line = false; network = true; run = false }
-touches (Some (Assign words)) = record { line = false; network = true; run = false }
-touches (Some (AssignSim words)) = record { line = false; network = false; run = false }
-touches (Some (Big words)) = record { line = true; network = false; run = true }
+-- it begins the simulated bus of units anew
+abbrev pub begins_units : Option Command → Bool
+begins_units (Some (AssignSim words)) = true
+begins_units _ = false
 
--- the simulated bus of units
-abbrev pub touches_units : Option Command → Bool
-touches_units (Some (AssignSim words)) = true
-touches_units _ = false
+-- it begins a run of the hub
+abbrev pub begins_run : Option Command → Bool
+begins_run (Some (Sim words)) = true
+begins_run (Some (Download words)) = true
+begins_run (Some (Big words)) = true
+begins_run _ = false
 
 -- the files that the words name, in the order in which they are read
 abbrev pub files_of : Option Command → List (List ℕ)
@@ -71,10 +66,6 @@ files_of (Some (Big words)) = []
 pub record HasNoRun (before : BusNow) (after : Left) : Type 0 where
   pub line : after.line ≡ before
   pub report : after.report ≡ None
-
--- the count of one file rose at most
-abbrev pub AtMostOneRose : (List ℕ → ℕ) → (List ℕ → ℕ) → Type 0
-AtMostOneRose faults faults' = (one : Option (List ℕ)) × OnlyRose one faults faults'
 
 -- what a call finds outside, and leaves there: what the files tell, the simulated line, the simulated bus of units, what the dialer tells, and the report of
 -- the run, where one was begun
@@ -99,8 +90,8 @@ Does (Some (Tables words)) before after Replied = TellsOfProject IsTablesText wo
 Does (Some (Migrate words)) before after Replied = TellsOfProject IsMigratedText words before.files after.files Replied × HasNoRun before.line (left_in after)
 -- One run keeps the whole headline (`Ran`): whatever is lost, repeated or cut, at every moment each device keeps its starting content, or is stopped, or runs
 -- what the project says; each group telegram acts on exactly the objects that the running configuration links; done is told only where what the project says
--- runs; no tunnelling request acts twice; and so on, sentence by sentence. That the link failed is told only at the last time of 64 bits, where a call of the
--- simulated line failed; and that there was no memory only where a call of that line found none, or before the run's first turn.
+-- runs; no tunnelling request acts twice; and so on, sentence by sentence. That the link failed, or had no memory, is told exactly where one call of the simulated
+-- line did so, which fails only at the last time of 64 bits; or there was no memory before the run's first turn.
 Does (Some (Sim words)) before after Replied = RunsScript words before.files after.files before.line (left_in after) Replied × FaultsOfLine after.report after.line
 -- the frame of the octets that the word writes
 Does (Some (Decode word)) before after Replied = TellsOfFrame word Replied × OnlyRose None before.files.faults after.files.faults × HasNoRun before.line (left_in after)

@@ -13,7 +13,7 @@ use Rattle.call_words.specs.declared.status.Status.{Status}
 use Rattle.call_words.specs.declared.status.Status.TheVariants as status
 use Rattle.knx_model.specs.declared.counts.Counts.{Counts}
 use Rattle.knx_model.specs.Outside.{FileContent, FilesNow, SinkNow, Untold, Absent, Holds, Rose, Wrote}
-use Rattle.line_model.specs.Dialled.{Address, DialerNow}
+use Rattle.line_model.specs.Dialled.{Address, DialerNow, FailsToOpen}
 use Rattle.line_model.specs.declared.group.GroupTurn.{GroupTurn}
 use Rattle.line_model.specs.declared.log.Report.{Report}
 use Rattle.bus_sim.specs.Loaded.{BusNow}
@@ -25,10 +25,10 @@ use Rattle.line_model.specs.Record.{record_of}
 use Rattle.line_model.specs.StartOf.{is_on_bus}
 use Rattle.line_model.specs.Undisturbed as line
 use Rattle.report_text.specs.LineStatus.{line_status}
-use Rattle.knx_top.specs.Dialled.{FailsToOpen}
 use Rattle.call_parts.specs.Ending.{end_text, service_status, service_text}
 use Rattle.call_parts.specs.Jobs.{AreJobs, ArePlanned}
-use Rattle.knx_top.specs.Ran.{Commission, Left, log_in}
+use Rattle.hub_core.specs.Commissioned.{log_of}
+use Rattle.knx_top.specs.Ran.{Commission, Left}
 use Rattle.knx_top.specs.Undisturbed.{AllServed}
 use Rattle.knx_top.specs.commands.Big.{BigWords}
 use Rattle.call_parts.specs.Project.{ProjectWords, project_tests}
@@ -126,7 +126,7 @@ pub record OfItsJobs (c : Commission) (P : List Job → Type 0) : Type 0 where
 -- the whole report was written, all was served, and the status is 0, or 1 where a check was refused
 pub record IsServedWhole (c : Commission) (after : Left) (out out' : SinkNow) (ending : Status) : Type 0 where
   pub whole : IsReportedWhole (λ told. ends.Reports told) c after out out' ending
-  pub served : OfItsJobs c (λ jobs. AllServed jobs c.turns (start after.line.run) (log_in whole.told.report))
+  pub served : OfItsJobs c (λ jobs. AllServed jobs c.turns (start after.line.run) (log_of whole.told.report))
   pub passes : (ending ≡ status.Done) ⊎ (ending ≡ status.SomeFailed)
 
 -- or there was no memory

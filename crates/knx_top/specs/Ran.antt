@@ -2,7 +2,7 @@
 -- at every moment, whatever is lost, repeated or cut, each device has its starting content, or is stopped, or runs what the new project says; each
 -- group telegram acts on exactly the objects that the running configuration links; `done` is told only where the new project's runs; no device has
 -- two downloaders at once, and no tunnelling request acts twice.
-use Rattle.std.specs.Prelude.{ℕ, IfSome, List, [], None, Option, Some, ◌≡◌, ◌⊎◌, ◌≤◌, length, reverse}
+use Rattle.std.specs.Prelude.{ℕ, List, [], None, Option, Some, ◌≡◌, ◌⊎◌, ◌≤◌, length}
 use Rattle.line_model.specs.ActedOnce.{ActedOnce}
 use Rattle.line_model.specs.Telegrams.{ActsByProject, TelegramsActRight}
 use Rattle.line_model.specs.Log.{AllOver, IsLog, Job, OneDownloaderPerDevice, TakenInOrder, TurnUnfinished}
@@ -14,7 +14,7 @@ use Rattle.line_model.specs.Tunnel.{Commissions}
 use Rattle.line_model.specs.Follows.{Follows}
 use Rattle.line_model.specs.declared.group.GroupTurn.{GroupTurn}
 use Rattle.hub_core.specs.Closed.{HasClosed}
-use Rattle.hub_core.specs.Commissioned.{WantsAtFirst}
+use Rattle.hub_core.specs.Commissioned.{WantsAtFirst, log_of}
 use Rattle.line_model.specs.declared.fault.HubFault.{HubFault}
 use Rattle.knx_model.specs.Meaning.{Installation}
 use Rattle.bus_sim.specs.Ended.{IsAtEnd}
@@ -27,12 +27,12 @@ use Rattle.hub_core.specs.Seats.{IsOfWorkers}
 use Rattle.hub_core.specs.Thorough.{IsThoroughOver}
 use Rattle.call_words.specs.declared.job_word.JobWord.{JobWord}
 use Rattle.line_model.specs.LinkStory.{Full, Story, record_in}
-use Rattle.line_model.specs.declared.fault.HubFault.TheVariants.{GatewayRefused, LinkFailed, NoMemory}
+use Rattle.line_model.specs.declared.fault.HubFault.TheVariants.{GatewayRefused, LinkFailed}
 use Rattle.line_model.specs.declared.fault.Try.{Try}
 use Rattle.line_model.specs.declared.log.LogEntry.{LogEntry}
+use Rattle.line_model.specs.Polled.{after_fault, none_failed}
 use Rattle.line_model.specs.OldStoppedOrNew.{MeansWhereDone, OldStoppedOrNew, RunsMeaning}
 use Rattle.line_model.specs.declared.log.Report.{Report}
-use Rattle.knx_model.specs.Outside.{Rose}
 use Rattle.bus_sim.specs.RunNow.{RunNow, start}
 use Rattle.knx_model.specs.declared.script.ScriptLine.{ScriptLine}
 use Rattle.call_parts.specs.Options.{SimOptions, most_jobs, workers_of}
@@ -78,10 +78,6 @@ pub record KeepsPromises (c : Commission) (jobs : List Job) (r : RunNow) (log : 
 
 -- ---- what is told, over any link
 
--- the log as the definitions have it, the newest entry first
-abbrev pub log_in : Report → List LogEntry
-log_in report = reverse report.log
-
 -- refused connects are told of three tries
 abbrev pub HasThreeTries : Option HubFault → Type 0
 HasThreeTries fault = (tries : List Try) → fault ≡ Some (GatewayRefused tries) → length tries ≡ 3
@@ -90,30 +86,30 @@ HasThreeTries fault = (tries : List Try) → fault ≡ Some (GatewayRefused trie
 pub record IsToldOver (workers : ℕ) (turns : List GroupTurn) (jobs : List Job) (story : Story) (report : Report) : Type 0 where
   -- the client keeps the discipline of the line, and so the headline holds: no device has two downloaders at once, the log tells no end that the record doesn't
   -- show, and all that is sent is right
-  pub keeps : Keeps jobs turns story (log_in report)
-  pub right : IsRightOver jobs story (log_in report)
+  pub keeps : Keeps jobs turns story (log_of report)
+  pub right : IsRightOver jobs story (log_of report)
   -- it loses no time, so far as its link's clock allows to say: a poll lasts at most 100 ms, a heartbeat is in time, and no time passes while a job that has
   -- begun has something to send that can be sent
-  pub hastens : HastensIn jobs turns (log_in report) story
+  pub hastens : HastensIn jobs turns (log_of report) story
   -- an end is told only where no attempt of its job runs, no attempt begins once the last one has decided the job, and each loss of the channel is
   -- followed by what is due to the gateway then, and by nothing more
-  pub thorough : IsThoroughOver jobs story (log_in report)
+  pub thorough : IsThoroughOver jobs story (log_of report)
   -- the open channel isn't asked to end before all jobs are over, and then once, after the listening
-  pub leaves : LeavesOver jobs turns story (log_in report)
+  pub leaves : LeavesOver jobs turns story (log_of report)
   -- a fault has its cause in the record, want of memory and a failed link aside, whose cause the link tells, and refused connects are told of three tries; without
   -- a fault there is none in the end, every job has its end, every group telegram is told, and the closing is over
-  pub fault : FaultRightIn jobs (log_in report) report.fault (record_in story)
+  pub fault : FaultRightIn jobs (log_of report) report.fault (record_in story)
   pub tries : HasThreeTries report.fault
-  pub ended : report.fault ≡ None → AllOver jobs (log_in report)
-  pub sent : report.fault ≡ None → ¬ TurnUnfinished turns (log_in report)
-  pub closed : report.fault ≡ None → WhereTold (HasClosed (log_in report)) story
+  pub ended : report.fault ≡ None → AllOver jobs (log_of report)
+  pub sent : report.fault ≡ None → ¬ TurnUnfinished turns (log_of report)
+  pub closed : report.fault ≡ None → WhereTold (HasClosed (log_of report)) story
   -- over every link the log is one of the jobs, no device has two downloaders at once, and each job that was taken was the first that was free
   pub place : ℕ
-  pub form : IsLog jobs turns place (log_in report)
-  pub alone : OneDownloaderPerDevice jobs (log_in report)
-  pub in_order : TakenInOrder jobs (log_in report)
+  pub form : IsLog jobs turns place (log_of report)
+  pub alone : OneDownloaderPerDevice jobs (log_of report)
+  pub in_order : TakenInOrder jobs (log_of report)
   -- what was done was done by one of the workers, or by the group thread
-  pub seats : IsOfWorkers workers (log_in report)
+  pub seats : IsOfWorkers workers (log_of report)
   -- what was heard is told, in order, but for what was missed; and what was dropped, a number of 64 bits, which stands still at its greatest
   pub heard : HeardIn report.fault report.missed report.heard (record_in story)
   pub dropped : DropsIn report.dropped (record_in story)
@@ -129,13 +125,13 @@ pub record Ran (c : Commission) (r : RunNow) (report : Report) (words : List Job
   pub planned : ArePlanned c.project jobs words
   pub few_jobs : length jobs ≤ most_jobs
   pub few_turns : length c.turns ≤ most_turns
-  pub promises : KeepsPromises c jobs r (log_in report)
+  pub promises : KeepsPromises c jobs r (log_of report)
   -- the simulated line tells its start and its events
   pub told : IsToldOver c.workers c.turns jobs (Full (start r) r.events) report
   -- Where no line of the script disturbs, and the jobs' devices are on the line, nothing fails, and the run isn't broken off but for want of memory, by a
   -- flood of datagrams where a group telegram asks for values, or at the last time of 64 bits: each load is told done, each check done exactly where an
   -- earlier job loads its device or its device began with the new image, and each group telegram sent.
-  pub undisturbed : IsUndisturbed c.project c.before c.script jobs → NothingFails jobs c.turns r (log_in report) report.fault
+  pub undisturbed : IsUndisturbed c.project c.before c.script jobs → NothingFails jobs c.turns r (log_of report) report.fault
 
 -- ---- what a call leaves of it
 
@@ -144,16 +140,14 @@ pub record Left : Type 0 where
   pub line : BusNow
   pub report : Option Report
 
--- ---- where its link failed, or had no memory
+-- ---- the counts of its link
 
--- That the link failed is told only at the end of a run, which is the last time of 64 bits, 2^64 - 1 ms after it began. There a call of the simulated
--- line failed, and their count, which is 0 where a run begins, rose. That there was no memory is told only where a call of the simulated line found none, and their
--- count, which is 0 where a run begins, rose; or there was none before the first turn, and nothing has happened on the line.
-abbrev pub HasCauseOnLine : Report → BusNow → HubFault → Type 0
-HasCauseOnLine report after LinkFailed = IsAtEnd after.run × Rose 0 after.faults.failed
-HasCauseOnLine report after (NoMemory want) = Rose 0 after.faults.wanting ⊎ (WantsAtFirst (NoMemory want) report × (after.run.events ≡ []))
-HasCauseOnLine report after fault = Unit {0}
+-- That the line failed, or had no memory, is told exactly where one call of it did so, and no other call failed; the counts are 0 where a run begins. It fails only at
+-- the end of a run, which is the last time of 64 bits, 2^64 - 1 ms after it began. Or there was no memory before the first turn, and nothing has happened.
+pub record CountsOnLine (report : Report) (after : BusNow) : Type 0 where
+  pub counts : (after.faults ≡ after_fault report.fault none_failed) ⊎ (WantsAtFirst report × (after.run.events ≡ []) × (after.faults ≡ none_failed))
+  pub last : report.fault ≡ Some LinkFailed → IsAtEnd after.run
 
 abbrev pub FaultsOfLine : Option Report → BusNow → Type 0
 FaultsOfLine None after = Unit {0}
-FaultsOfLine (Some report) after = IfSome report.fault (HasCauseOnLine report after)
+FaultsOfLine (Some report) after = CountsOnLine report after

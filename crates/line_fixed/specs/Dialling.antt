@@ -1,7 +1,7 @@
 -- A dialer of fixed data as contracts see it: the link and the port that it has to hand out, those that came back last, the host and the
 -- port number that it was given last, and its counts.
-use Rattle.std.specs.Prelude.{◌≡◌, ℕ, zero, suc, [], Option, None, Some}
-use Rattle.knx_model.specs.Outside.{one_more}
+use Rattle.std.specs.Prelude.{◌≡◌, ℕ, [], Option, None, Some}
+use Rattle.line_model.specs.declared.outside.fault_counts.FaultCounts.{FaultCounts}
 use Rattle.line_model.specs.Dialled.{Address}
 use Rattle.line_model.specs.LinkStory as of_link
 use Rattle.line_model.specs.Polled.{none_failed}
@@ -18,8 +18,7 @@ pub record Dialling : Type 0 where
   pub port_back : Option FixedPort
   pub given : Option Address
   pub dials : ℕ
-  pub faults : ℕ
-  pub wanting : ℕ
+  pub counts : FaultCounts
 
 abbrev pub address_of : kept.Address → Address
 address_of address = record { host = address.host; port = address.port }
@@ -39,12 +38,3 @@ link_told (Some link) = of_link.Recorded (clock_by link.lasting) link.entries
 abbrev pub port_told : Option FixedPort → of_port.PortStory
 port_told None = of_port.Untold
 port_told (Some port) = of_port.Recorded port.items
-
--- the count of faults after a call that hands out what there is; after one that takes something back with so many faults
-abbrev pub handing : {X : Type 0} → Option X → ℕ → ℕ
-handing None faults = one_more faults
-handing (Some x) faults = faults
-
-abbrev pub taking_back : ℕ → ℕ → ℕ
-taking_back zero faults = faults
-taking_back (suc more) faults = one_more faults

@@ -3,11 +3,8 @@
 use Rattle.std.specs.Prelude.{◌≡◌, ℕ, ◌<◌, ◌⊎◌, List, [], ◌∷◌, length, min, take, slice_get, Contains, Option, Some, None, Result, Ok, Err}
 use Rattle.std.specs.Option.{option_or}
 use Rattle.knx_model.specs.Outside.{one_more, greatest_count}
-use Rattle.line_model.specs.declared.outside.link.LinkFault.{LinkFault}
 use Rattle.line_model.specs.declared.outside.link.Polled.{Polled}
 use Rattle.line_model.specs.declared.outside.link.Polled.TheVariants as link_answer
-use Rattle.line_model.specs.declared.outside.port.PortFault.{PortFault}
-use Rattle.line_model.specs.declared.outside.port.PortFault.TheVariants as port_fault
 use Rattle.line_model.specs.declared.outside.port.PortPolled.{PortPolled}
 use Rattle.line_model.specs.declared.outside.port.PortPolled.TheVariants as port_answer
 use Rattle.line_model.specs.LinkStory.{Clock, Exact, Running}
@@ -16,12 +13,6 @@ use Rattle.line_model.specs.PortStory.{PortItem}
 use Rattle.line_model.specs.Record.{Entry, Got, Quiet, entry, longest_got}
 
 -- ---- what a call leaves
-
--- the count of a port's faults after a call
-abbrev pub with_port_fault : {X : Type 0} → Result X PortFault → ℕ → ℕ
-with_port_fault (Ok x) faults = faults
-with_port_fault (Err (port_fault.NoMemory want)) faults = faults
-with_port_fault (Err port_fault.Failed) faults = one_more faults
 
 -- a list after a call that adds to it, or fails and leaves it
 abbrev pub with_entry : {A X E : Type 0} → Result X E → A → List A → List A

@@ -1,6 +1,7 @@
 -- A dialer of one link as contracts see it: the link that it has to hand out and the call of it that fails, the one that came back and the port that did, the host
 -- and the port number that it was given last, and its counts.
 use Rattle.std.specs.Prelude.{ℕ, Option, None, Some}
+use Rattle.line_model.specs.declared.outside.fault_counts.FaultCounts.{FaultCounts}
 use Rattle.line_model.specs.Dialled.{Address}
 use Rattle.line_model.specs.LinkStory.{Story, Untold}
 use Rattle.line_fixed.specs.declared.port.FixedPort.{FixedPort}
@@ -12,8 +13,7 @@ pub record OneLine (L : Type 0) : Type 0 where
   pub port_back : Option FixedPort
   pub given : Option Address
   pub dials : ℕ
-  pub faults : ℕ
-  pub wanting : ℕ
+  pub counts : FaultCounts
 
 -- what came back told last; nothing, where nothing came back yet
 abbrev pub line_told : {L : Type 0} → (L → Story) → Option L → Story

@@ -1,17 +1,17 @@
 //! A dialer of fixed data.
 
-ghost use Rattle.std.specs.Prelude.{◌≡◌, ◌≤◌, IfOk, IfSome, IsErr, MatchOption, None, Ok, OnErr, Some, option_copied, option_map};
-ghost use Rattle.knx_model.specs.Outside.{Rose, one_more};
-ghost use Rattle.line_model.specs.Dialled.{Address as Told, TakesBack, Tells};
+ghost use Rattle.std.specs.Prelude.{◌≡◌, IfOk, IfSome, IsErr, MatchOption, None, Ok, Some, option_copied, option_map};
+ghost use Rattle.knx_model.specs.Outside.{one_more};
+ghost use Rattle.line_model.specs.Dialled.{Tells, after_dial, with_link, with_port};
 ghost use Rattle.line_model.specs.LinkStory.{IsNewLink, Recorded as LinkTold};
 ghost use Rattle.line_model.specs.Polled.{none_failed};
 ghost use Rattle.line_model.specs.PortStory.{IsNewPort, Recorded as PortTold};
-ghost use Rattle.line_fixed.specs.Dialling.{IsUnusedLink, IsUnusedPort, address_of, handing, link_told, port_told, taking_back};
+ghost use Rattle.line_fixed.specs.Dialling.{IsUnusedLink, IsUnusedPort, address_of, link_told, port_told};
 ghost use Rattle.line_fixed.specs.Fixed.{clock_by};
 
 use crate::link::FixedLink;
 use crate::port::FixedPort;
-use line_model::{DialFailed, Dialer};
+use line_model::{DialFailed, Dialer, FaultCounts};
 use std::marker::Model;
 
 /// A host and a port number.
@@ -31,8 +31,7 @@ pub struct FixedDialer {
     port_back: Option<FixedPort>,
     given: Option<Address>,
     dials: u64,
-    faults: u64,
-    wanting: u64,
+    counts: FaultCounts,
 }
 
 impl Model for FixedDialer {
@@ -41,7 +40,7 @@ impl Model for FixedDialer {
 
     ghost Value = { Dialling };
 
-    ghost view = { λ d. record { link = d.link; port = d.port; link_back = d.link_back; port_back = d.port_back; given = option_map address_of d.given; dials = d.dials; faults = d.faults; wanting = d.wanting } };
+    ghost view = { λ d. record { link = d.link; port = d.port; link_back = d.link_back; port_back = d.port_back; given = option_map address_of d.given; dials = d.dials; counts = d.counts } };
 
     ghost invariant = { λ d. IfSome d.link IsUnusedLink × IfSome d.port IsUnusedPort };
 }
@@ -51,7 +50,7 @@ impl FixedDialer {
     pub fn new(link: Option<FixedLink>, port: Option<FixedPort>) -> FixedDialer
         requires link { IfSome link IsUnusedLink }
         requires port { IfSome port IsUnusedPort }
-        ensures { result ≡ record { link = link; port = port; link_back = None; port_back = None; given = None; dials = 0; faults = 0; wanting = 0 } }
+        ensures { result ≡ record { link = link; port = port; link_back = None; port_back = None; given = None; dials = 0; counts = none_failed } }
     {
         FixedDialer {
             link,
@@ -60,8 +59,7 @@ impl FixedDialer {
             port_back: None,
             given: None,
             dials: 0,
-            faults: 0,
-            wanting: 0,
+            counts: FaultCounts::none(),
         }
     }
 
@@ -93,11 +91,11 @@ impl FixedDialer {
         self.dials
     }
 
-    /// How many calls failed, those of what was taken back counted as one.
-    pub fn faults(&self) -> u64
-        ensures { result ≡ self.now.faults }
+    /// How many calls failed, and how many found no memory, those of what was taken back among them.
+    pub fn counts(&self) -> FaultCounts
+        ensures { result ≡ self.now.counts }
     {
-        self.faults
+        self.counts
     }
 }
 
@@ -108,28 +106,26 @@ impl Dialer for FixedDialer {
 
     type P = FixedPort;
 
-    ghost now = { λ d. record { faults = d.faults; wanting = d.wanting; dials = d.dials; given = d.given; link_back = link_told d.link_back; port_back = port_told d.port_back } };
+    ghost now = { λ d. record { counts = d.counts; dials = d.dials; given = d.given; link_back = link_told d.link_back; port_back = port_told d.port_back } };
 
     fn dial(&mut self, host: [u8; 4], port: u16) -> Result<FixedLink, DialFailed>
         ensures fresh { IfOk result (λ l. IsNewLink (LinkTold (clock_by l.lasting) l.entries)) }
         ensures sound { IfOk result (λ l. l.faults ≡ none_failed) }
-        ensures failed { OnErr result (Rose self.old.faults self.new.faults) }
-        ensures count { self.old.faults ≤ self.new.faults }
-        ensures wanting { self.new.wanting ≡ self.old.wanting }
+        ensures counts { self.new.counts ≡ after_dial result self.old.counts }
         ensures tells { Tells host port self.new.given }
         ensures dials { self.new.dials ≡ one_more self.old.dials }
         ensures link_stays { link_told self.new.link_back ≡ link_told self.old.link_back }
         ensures port_stays { port_told self.new.port_back ≡ port_told self.old.port_back }
         // the link is handed out, where there is one
         ensures answer { MatchOption self.old.link (IsErr result) (λ l. result ≡ Ok l) }
-        ensures after { self.new ≡ record self.old { link = None; given = Some (record { host = host; port = port }); dials = one_more self.old.dials; faults = handing self.old.link self.old.faults } }
+        ensures after { self.new ≡ record self.old { link = None; given = Some (record { host = host; port = port }); dials = one_more self.old.dials; counts = after_dial result self.old.counts } }
     {
         self.dials = self.dials.saturating_add(1);
         self.given = Some(Address { host, port });
         match self.link.take() {
             Some(link) => Ok(link),
             None => {
-                self.faults = self.faults.saturating_add(1);
+                self.counts.fail();
                 Err(DialFailed)
             }
         }
@@ -138,55 +134,44 @@ impl Dialer for FixedDialer {
     fn bind(&mut self, host: [u8; 4], port: u16) -> Result<FixedPort, DialFailed>
         ensures fresh { IfOk result (λ p. IsNewPort (PortTold p.items)) }
         ensures sound { IfOk result (λ p. p.faults ≡ 0) }
-        ensures failed { OnErr result (Rose self.old.faults self.new.faults) }
-        ensures count { self.old.faults ≤ self.new.faults }
-        ensures wanting { self.new.wanting ≡ self.old.wanting }
+        ensures counts { self.new.counts ≡ after_dial result self.old.counts }
         ensures tells { Tells host port self.new.given }
         ensures dials { self.new.dials ≡ one_more self.old.dials }
         ensures link_stays { link_told self.new.link_back ≡ link_told self.old.link_back }
         ensures port_stays { port_told self.new.port_back ≡ port_told self.old.port_back }
         ensures answer { MatchOption self.old.port (IsErr result) (λ p. result ≡ Ok p) }
-        ensures after { self.new ≡ record self.old { port = None; given = Some (record { host = host; port = port }); dials = one_more self.old.dials; faults = handing self.old.port self.old.faults } }
+        ensures after { self.new ≡ record self.old { port = None; given = Some (record { host = host; port = port }); dials = one_more self.old.dials; counts = after_dial result self.old.counts } }
     {
         self.dials = self.dials.saturating_add(1);
         self.given = Some(Address { host, port });
         match self.port.take() {
             Some(door) => Ok(door),
             None => {
-                self.faults = self.faults.saturating_add(1);
+                self.counts.fail();
                 Err(DialFailed)
             }
         }
     }
 
     fn hang(&mut self, line: FixedLink)
-        ensures count { TakesBack line.faults.failed self.old.faults self.new.faults }
-        ensures wanting { TakesBack line.faults.wanting self.old.wanting self.new.wanting }
+        ensures counts { self.new.counts ≡ with_link line.faults self.old.counts }
         ensures told { link_told self.new.link_back ≡ LinkTold (clock_by line.lasting) line.entries }
         ensures given { self.new.given ≡ self.old.given }
         ensures dials { self.new.dials ≡ self.old.dials }
-        ensures after { self.new ≡ record self.old { link_back = Some line; faults = taking_back line.faults.failed self.old.faults; wanting = taking_back line.faults.wanting self.old.wanting } }
+        ensures after { self.new ≡ record self.old { link_back = Some line; counts = with_link line.faults self.old.counts } }
     {
-        if line.faults.failed != 0 {
-            self.faults = self.faults.saturating_add(1);
-        }
-        if line.faults.wanting != 0 {
-            self.wanting = self.wanting.saturating_add(1);
-        }
+        self.counts.take_link(line.faults);
         self.link_back = Some(line);
     }
 
     fn shut(&mut self, door: FixedPort)
-        ensures count { TakesBack door.faults self.old.faults self.new.faults }
-        ensures wanting { self.new.wanting ≡ self.old.wanting }
+        ensures counts { self.new.counts ≡ with_port door.faults self.old.counts }
         ensures told { port_told self.new.port_back ≡ PortTold door.items }
         ensures given { self.new.given ≡ self.old.given }
         ensures dials { self.new.dials ≡ self.old.dials }
-        ensures after { self.new ≡ record self.old { port_back = Some door; faults = taking_back door.faults self.old.faults } }
+        ensures after { self.new ≡ record self.old { port_back = Some door; counts = with_port door.faults self.old.counts } }
     {
-        if door.faults != 0 {
-            self.faults = self.faults.saturating_add(1);
-        }
+        self.counts.take_port(door.faults);
         self.port_back = Some(door);
     }
 }

@@ -1,12 +1,12 @@
 //! A link of which one call fails.
 
-ghost use Rattle.std.specs.Prelude.{◌≡◌, ◌≢◌, ◌≤◌, ◌↔◌, Err, Ok, OnErr, OnOk};
+ghost use Rattle.std.specs.Prelude.{◌≡◌, ◌≢◌, ◌≤◌, Err, Ok, OnErr, OnOk};
 ghost use Rattle.knx_model.specs.Outside.{one_more};
 ghost use Rattle.line_model.specs.LinkStory.{IsPlace, IsTime, Renews, RenewsOrNot, Sends, SendsOrNot};
-ghost use Rattle.line_model.specs.Polled.{FailsWhere, NeverFall, PollsSo, after_call, none_failed};
+ghost use Rattle.line_model.specs.Polled.{PollsSo, after_call, none_failed};
 ghost use Rattle.line_model.specs.declared.outside.link.LinkFault.TheVariants.{Failed};
 
-use line_model::{Link, LinkCounts, LinkFault, Polled};
+use line_model::{FaultCounts, Link, LinkFault, Polled};
 
 /// A link that passes every call on to another, but the one with the number `fails_at`, from 1, which fails. It tells what the other tells.
 #[derive(Drop)]
@@ -15,7 +15,7 @@ pub struct FailingLink<L: Link> {
     pub fails_at: u64,
     pub calls: u64,
     /// How many calls failed, and how many found no memory, those that were passed on too.
-    pub faults: LinkCounts,
+    pub faults: FaultCounts,
 }
 
 impl<L: Link> FailingLink<L> {
@@ -28,7 +28,7 @@ impl<L: Link> FailingLink<L> {
             link,
             fails_at,
             calls: 0,
-            faults: LinkCounts::none(),
+            faults: FaultCounts::none(),
         }
     }
 
@@ -37,8 +37,6 @@ impl<L: Link> FailingLink<L> {
         ensures after { self.new ≡ record self.old { calls = one_more self.old.calls; faults = after_call result self.old.faults } }
         ensures fails { OnErr result ((result ≡ Err Failed) × (self.new.calls ≡ self.old.fails_at)) }
         ensures passes { OnOk result (self.new.calls ≢ self.old.fails_at) }
-        ensures cause { FailsWhere result self.old.faults self.new.faults }
-        ensures count { NeverFall self.old.faults self.new.faults }
     {
         self.calls = self.calls.saturating_add(1);
         if self.calls == self.fails_at {
@@ -62,15 +60,14 @@ impl<L: Link> Link for FailingLink<L> {
     fn send(&mut self, octets: &[u8]) -> Result<(), LinkFault>
         ensures sent { OnOk result (Sends octets.now (L.story self.old.link) (L.story self.new.link)) }
         ensures failed { OnErr result (SendsOrNot octets.now (L.story self.old.link) (L.story self.new.link)) }
-        ensures cause { FailsWhere result self.old.faults self.new.faults }
-        ensures count { NeverFall self.old.faults self.new.faults }
+        ensures counts { self.new.faults ≡ after_call result self.old.faults }
         ensures time { L.clock self.new.link ≡ L.clock self.old.link }
         ensures events { L.place self.old.link ≤ L.place self.new.link }
         ensures script { L.script self.new.link ≡ L.script self.old.link }
         // the one call fails and isn't passed on; of another that fails the link's count rose
-        ensures counts { self.new ≡ record self.old { link = self.new.link; calls = one_more self.old.calls; faults = after_call result self.old.faults } }
+        ensures after { self.new ≡ record self.old { link = self.new.link; calls = one_more self.old.calls; faults = after_call result self.old.faults } }
         ensures fails { self.new.calls ≡ self.old.fails_at → (result ≡ Err Failed) × (self.new.link ≡ self.old.link) }
-        ensures passes { self.new.calls ≢ self.old.fails_at → FailsWhere result (L.faults self.old.link) (L.faults self.new.link) }
+        ensures passes { self.new.calls ≢ self.old.fails_at → L.faults self.new.link ≡ after_call result (L.faults self.old.link) }
     {
         self.begin()?;
         let answer = self.link.send(octets);
@@ -80,14 +77,13 @@ impl<L: Link> Link for FailingLink<L> {
     fn renew(&mut self) -> Result<(), LinkFault>
         ensures renewed { OnOk result (Renews (L.story self.old.link) (L.story self.new.link)) }
         ensures failed { OnErr result (RenewsOrNot (L.story self.old.link) (L.story self.new.link)) }
-        ensures cause { FailsWhere result self.old.faults self.new.faults }
-        ensures count { NeverFall self.old.faults self.new.faults }
+        ensures counts { self.new.faults ≡ after_call result self.old.faults }
         ensures time { L.clock self.new.link ≡ L.clock self.old.link }
         ensures events { L.place self.old.link ≤ L.place self.new.link }
         ensures script { L.script self.new.link ≡ L.script self.old.link }
-        ensures counts { self.new ≡ record self.old { link = self.new.link; calls = one_more self.old.calls; faults = after_call result self.old.faults } }
+        ensures after { self.new ≡ record self.old { link = self.new.link; calls = one_more self.old.calls; faults = after_call result self.old.faults } }
         ensures fails { self.new.calls ≡ self.old.fails_at → (result ≡ Err Failed) × (self.new.link ≡ self.old.link) }
-        ensures passes { self.new.calls ≢ self.old.fails_at → FailsWhere result (L.faults self.old.link) (L.faults self.new.link) }
+        ensures passes { self.new.calls ≢ self.old.fails_at → L.faults self.new.link ≡ after_call result (L.faults self.old.link) }
     {
         self.begin()?;
         let answer = self.link.renew();
@@ -96,14 +92,13 @@ impl<L: Link> Link for FailingLink<L> {
 
     fn poll(&mut self, into: &mut [u8; 512], wait_ms: u32) -> Result<Polled, LinkFault>
         ensures polled { PollsSo result into.new wait_ms (L.clock self.new.link) (L.story self.old.link) (L.story self.new.link) }
-        ensures cause { FailsWhere result self.old.faults self.new.faults }
-        ensures count { NeverFall self.old.faults self.new.faults }
+        ensures counts { self.new.faults ≡ after_call result self.old.faults }
         ensures time { L.clock self.old.link ≤ L.clock self.new.link }
         ensures events { L.place self.old.link ≤ L.place self.new.link }
         ensures script { L.script self.new.link ≡ L.script self.old.link }
-        ensures counts { self.new ≡ record self.old { link = self.new.link; calls = one_more self.old.calls; faults = after_call result self.old.faults } }
+        ensures after { self.new ≡ record self.old { link = self.new.link; calls = one_more self.old.calls; faults = after_call result self.old.faults } }
         ensures fails { self.new.calls ≡ self.old.fails_at → (result ≡ Err Failed) × (self.new.link ≡ self.old.link) }
-        ensures passes { self.new.calls ≢ self.old.fails_at → FailsWhere result (L.faults self.old.link) (L.faults self.new.link) }
+        ensures passes { self.new.calls ≢ self.old.fails_at → L.faults self.new.link ≡ after_call result (L.faults self.old.link) }
     {
         self.begin()?;
         let answer = self.link.poll(into, wait_ms);

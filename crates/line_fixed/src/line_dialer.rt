@@ -2,11 +2,12 @@
 
 ghost use Rattle.std.specs.Prelude.{◌≡◌, None, Some, option_copied};
 ghost use Rattle.line_model.specs.LinkStory.{IsNewLink};
+ghost use Rattle.line_model.specs.Polled.{none_failed};
 
 use crate::dialer::Address;
 use crate::failing::FailingLink;
 use crate::port::FixedPort;
-use line_model::{DialFailed, Dialer, Link};
+use line_model::{DialFailed, Dialer, FaultCounts, Link};
 use std::marker::Model;
 
 /// A dialer that hands a link out once, whatever it is, and keeps it when it comes back: over the simulated line, one that tells its events. Of the link the call
@@ -19,8 +20,7 @@ pub struct LineDialer<N: Link + Send> {
     port_back: Option<FixedPort>,
     given: Option<Address>,
     dials: u64,
-    faults: u64,
-    wanting: u64,
+    counts: FaultCounts,
 }
 
 impl<N: Link + Send> Model for LineDialer<N> {
@@ -31,7 +31,7 @@ impl<N: Link + Send> Model for LineDialer<N> {
 
     ghost Value = { OneLine N };
 
-    ghost view = { λ d. record { line = d.line; fails_at = d.fails_at; line_back = d.line_back; port_back = d.port_back; given = option_map address_of d.given; dials = d.dials; faults = d.faults; wanting = d.wanting } };
+    ghost view = { λ d. record { line = d.line; fails_at = d.fails_at; line_back = d.line_back; port_back = d.port_back; given = option_map address_of d.given; dials = d.dials; counts = d.counts } };
 
     ghost invariant = { λ d. IfSome d.line (λ line. IsNewLink (N.story line)) };
 }
@@ -40,7 +40,7 @@ impl<N: Link + Send> LineDialer<N> {
     /// A dialer of which no call was made yet.
     pub fn new(line: N, fails_at: u64) -> LineDialer<N>
         requires { IsNewLink (N.story line) }
-        ensures { result ≡ record { line = Some line; fails_at = fails_at; line_back = None; port_back = None; given = None; dials = 0; faults = 0; wanting = 0 } }
+        ensures { result ≡ record { line = Some line; fails_at = fails_at; line_back = None; port_back = None; given = None; dials = 0; counts = none_failed } }
     {
         LineDialer {
             line: Some(line),
@@ -49,8 +49,7 @@ impl<N: Link + Send> LineDialer<N> {
             port_back: None,
             given: None,
             dials: 0,
-            faults: 0,
-            wanting: 0,
+            counts: FaultCounts::none(),
         }
     }
 
@@ -61,11 +60,11 @@ impl<N: Link + Send> LineDialer<N> {
         self.line_back.as_ref()
     }
 
-    /// How many calls failed, those of what was taken back counted as one.
-    pub fn faults(&self) -> u64
-        ensures { result ≡ self.now.faults }
+    /// How many calls failed, and how many found no memory, those of what was taken back among them.
+    pub fn counts(&self) -> FaultCounts
+        ensures { result ≡ self.now.counts }
     {
-        self.faults
+        self.counts
     }
 }
 
@@ -77,7 +76,7 @@ impl<N: Link + Send> Dialer for LineDialer<N> {
 
     type P = FixedPort;
 
-    ghost now = { λ d. record { faults = d.faults; wanting = d.wanting; dials = d.dials; given = d.given; link_back = line_told N.story d.line_back; port_back = port_told d.port_back } };
+    ghost now = { λ d. record { counts = d.counts; dials = d.dials; given = d.given; link_back = line_told N.story d.line_back; port_back = port_told d.port_back } };
 
     fn dial(&mut self, host: [u8; 4], port: u16) -> Result<FailingLink<N>, DialFailed> {
         self.dials = self.dials.saturating_add(1);
@@ -85,7 +84,7 @@ impl<N: Link + Send> Dialer for LineDialer<N> {
         match self.line.take() {
             Some(line) => Ok(FailingLink::new(line, self.fails_at)),
             None => {
-                self.faults = self.faults.saturating_add(1);
+                self.counts.fail();
                 Err(DialFailed)
             }
         }
@@ -94,7 +93,7 @@ impl<N: Link + Send> Dialer for LineDialer<N> {
     fn bind(&mut self, host: [u8; 4], port: u16) -> Result<FixedPort, DialFailed> {
         self.dials = self.dials.saturating_add(1);
         self.given = Some(Address { host, port });
-        self.faults = self.faults.saturating_add(1);
+        self.counts.fail();
         Err(DialFailed)
     }
 
@@ -105,19 +104,12 @@ impl<N: Link + Send> Dialer for LineDialer<N> {
             calls: _,
             faults,
         } = line;
-        if faults.failed != 0 {
-            self.faults = self.faults.saturating_add(1);
-        }
-        if faults.wanting != 0 {
-            self.wanting = self.wanting.saturating_add(1);
-        }
+        self.counts.take_link(faults);
         self.line_back = Some(link);
     }
 
     fn shut(&mut self, door: FixedPort) {
-        if door.faults != 0 {
-            self.faults = self.faults.saturating_add(1);
-        }
+        self.counts.take_port(door.faults);
         self.port_back = Some(door);
     }
 }

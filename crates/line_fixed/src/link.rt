@@ -3,7 +3,7 @@
 ghost use Rattle.std.specs.Prelude.{◌≡◌, ◌≤◌, ◌↔◌, ◌+◌, ◌<◌, ℕ, [], Err, IfOk, OnErr, OnOk, length, option_copied, slice_get};
 ghost use Rattle.knx_model.specs.Outside.{greatest_count, one_more};
 ghost use Rattle.line_model.specs.LinkStory.{IsPlace, IsTime, Recorded, Renews, RenewsOrNot, Sends, SendsOrNot, newest_time};
-ghost use Rattle.line_model.specs.Polled.{FailsWhere, NeverFall, PollsSo, after_call, none_failed};
+ghost use Rattle.line_model.specs.Polled.{PollsSo, after_call, none_failed};
 ghost use Rattle.line_model.specs.Record.{Put, Renewed, entry};
 ghost use Rattle.line_model.specs.declared.outside.link.LinkFault.TheVariants.{Failed};
 ghost use Rattle.line_fixed.specs.Entries.{told};
@@ -13,7 +13,7 @@ use crate::entries::Entries;
 use crate::item::Item;
 use crate::next::{LONGEST_GOT, copy_into, next_of};
 use knx_model::{List, NoMemory, Octets, front};
-use line_model::{Link, LinkCounts, LinkFault, Polled};
+use line_model::{FaultCounts, Link, LinkFault, Polled};
 use std::alloc::Global;
 
 /// A link that gives its datagrams in order, and then its last one for ever or quiet waits. It takes no time but in a quiet wait, unless it is told how
@@ -32,7 +32,7 @@ pub struct FixedLink {
     /// What was done.
     pub entries: Entries,
     pub calls: u64,
-    pub faults: LinkCounts,
+    pub faults: FaultCounts,
 }
 
 impl FixedLink {
@@ -56,7 +56,7 @@ impl FixedLink {
             answered: 0,
             entries: Entries::new(alloc),
             calls: 0,
-            faults: LinkCounts::none(),
+            faults: FaultCounts::none(),
         }
     }
 
@@ -183,8 +183,7 @@ impl Link for FixedLink {
     fn send(&mut self, octets: &[u8]) -> Result<(), LinkFault>
         ensures sent { OnOk result (Sends octets.now (Recorded (clock_by self.old.lasting) self.old.entries) (Recorded (clock_by self.new.lasting) self.new.entries)) }
         ensures failed { OnErr result (SendsOrNot octets.now (Recorded (clock_by self.old.lasting) self.old.entries) (Recorded (clock_by self.new.lasting) self.new.entries)) }
-        ensures cause { FailsWhere result self.old.faults self.new.faults }
-        ensures count { NeverFall self.old.faults self.new.faults }
+        ensures counts { self.new.faults ≡ after_call result self.old.faults }
         ensures time { newest_time self.new.entries ≡ newest_time self.old.entries }
         ensures events { length self.old.entries ≤ length self.new.entries }
         // a call adds its entry, or fails and adds nothing
@@ -198,8 +197,7 @@ impl Link for FixedLink {
     fn renew(&mut self) -> Result<(), LinkFault>
         ensures renewed { OnOk result (Renews (Recorded (clock_by self.old.lasting) self.old.entries) (Recorded (clock_by self.new.lasting) self.new.entries)) }
         ensures failed { OnErr result (RenewsOrNot (Recorded (clock_by self.old.lasting) self.old.entries) (Recorded (clock_by self.new.lasting) self.new.entries)) }
-        ensures cause { FailsWhere result self.old.faults self.new.faults }
-        ensures count { NeverFall self.old.faults self.new.faults }
+        ensures counts { self.new.faults ≡ after_call result self.old.faults }
         ensures time { newest_time self.new.entries ≡ newest_time self.old.entries }
         ensures events { length self.old.entries ≤ length self.new.entries }
         ensures after { self.new ≡ record self.old { calls = one_more self.old.calls; faults = after_call result self.old.faults; entries = with_entry result (entry Renewed (newest_time self.old.entries)) self.old.entries } }
@@ -211,8 +209,7 @@ impl Link for FixedLink {
 
     fn poll(&mut self, into: &mut [u8; LONGEST_GOT], wait_ms: u32) -> Result<Polled, LinkFault>
         ensures polled { PollsSo result into.new wait_ms (newest_time self.new.entries) (Recorded (clock_by self.old.lasting) self.old.entries) (Recorded (clock_by self.new.lasting) self.new.entries) }
-        ensures cause { FailsWhere result self.old.faults self.new.faults }
-        ensures count { NeverFall self.old.faults self.new.faults }
+        ensures counts { self.new.faults ≡ after_call result self.old.faults }
         ensures time { newest_time self.old.entries ≤ newest_time self.new.entries }
         ensures events { length self.old.entries ≤ length self.new.entries }
         // a call brings the next datagram or a quiet wait, or it fails and brings nothing

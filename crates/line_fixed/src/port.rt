@@ -1,10 +1,10 @@
 //! A port of fixed data.
 
-ghost use Rattle.std.specs.Prelude.{◌≡◌, ◌≤◌, ◌↔◌, [], Contains, Err, IfOk, OnErr, OnOk, slice_get};
+ghost use Rattle.std.specs.Prelude.{◌≡◌, ◌↔◌, [], Contains, Err, IfOk, OnErr, OnOk, slice_get};
 ghost use Rattle.knx_model.specs.Outside.{one_more};
-ghost use Rattle.line_model.specs.PortStory.{Adds, FailsWhere, Gave, GivesOrNot, Recorded, TakesSo};
+ghost use Rattle.line_model.specs.PortStory.{Adds, Gave, GivesOrNot, Recorded, TakesSo, after_call};
 ghost use Rattle.line_model.specs.declared.outside.port.PortFault.TheVariants.{Failed};
-ghost use Rattle.line_fixed.specs.Fixed.{AnswersPort, took, with_answer, with_entry, with_port_fault};
+ghost use Rattle.line_fixed.specs.Fixed.{AnswersPort, took, with_answer, with_entry};
 ghost use Rattle.line_fixed.specs.PortItems.{told};
 
 use crate::next::{LONGEST_GOT, copy_into};
@@ -48,10 +48,9 @@ impl FixedPort {
 
     /// Counts a call; it fails where it is listed.
     fn begin(&mut self) -> Result<(), PortFault>
-        ensures after { self.new ≡ record self.old { calls = one_more self.old.calls; faults = with_port_fault result self.old.faults } }
+        ensures after { self.new ≡ record self.old { calls = one_more self.old.calls; faults = after_call result self.old.faults } }
         ensures fails { (result ≡ Err Failed) ↔ Contains self.old.fails self.new.calls }
         ensures failed { OnErr result (result ≡ Err Failed) }
-        ensures count { self.old.faults ≤ self.new.faults }
     {
         self.calls = self.calls.saturating_add(1);
         if self.fails.as_slice().contains(&self.calls) {
@@ -96,10 +95,9 @@ impl Port for FixedPort {
 
     fn take(&mut self, into: &mut [u8; LONGEST_GOT], wait_ms: u32) -> Result<PortPolled, PortFault>
         ensures taken { TakesSo result into.new wait_ms (Recorded self.old.items) (Recorded self.new.items) }
-        ensures cause { FailsWhere result self.old.faults self.new.faults }
-        ensures count { self.old.faults ≤ self.new.faults }
+        ensures counts { self.new.faults ≡ after_call result self.old.faults }
         // a call takes the next datagram or waits quietly, or it fails and does nothing
-        ensures after { self.new ≡ record self.old { calls = one_more self.old.calls; faults = with_port_fault result self.old.faults; answered = with_answer result self.old.answered; items = with_entry result (took (slice_get self.old.gives self.old.answered) wait_ms) self.old.items } }
+        ensures after { self.new ≡ record self.old { calls = one_more self.old.calls; faults = after_call result self.old.faults; answered = with_answer result self.old.answered; items = with_entry result (took (slice_get self.old.gives self.old.answered) wait_ms) self.old.items } }
         ensures fails { (result ≡ Err Failed) ↔ Contains self.old.fails self.new.calls }
         ensures answer { IfOk result (λ polled. AnswersPort polled into.new (slice_get self.old.gives self.old.answered)) }
     {
@@ -119,9 +117,8 @@ impl Port for FixedPort {
     fn give(&mut self, to: u32, octets: &[u8]) -> Result<(), PortFault>
         ensures given { OnOk result (Adds (Gave to octets.now) (Recorded self.old.items) (Recorded self.new.items)) }
         ensures failed { OnErr result (GivesOrNot to octets.now (Recorded self.old.items) (Recorded self.new.items)) }
-        ensures cause { FailsWhere result self.old.faults self.new.faults }
-        ensures count { self.old.faults ≤ self.new.faults }
-        ensures after { self.new ≡ record self.old { calls = one_more self.old.calls; faults = with_port_fault result self.old.faults; items = with_entry result (Gave to octets.now) self.old.items } }
+        ensures counts { self.new.faults ≡ after_call result self.old.faults }
+        ensures after { self.new ≡ record self.old { calls = one_more self.old.calls; faults = after_call result self.old.faults; items = with_entry result (Gave to octets.now) self.old.items } }
         ensures fails { (result ≡ Err Failed) ↔ Contains self.old.fails self.new.calls }
     {
         self.begin()?;

@@ -2,6 +2,7 @@ mod Tests
 mod Datagrams
 mod Frames
 mod Passes
+mod Writings
 mod Sessions
 mod Loads
 mod Buses
@@ -20,4 +21,4 @@ pub mod UnderWay
 pub mod Entries
 pub mod Moments
 pub mod Strays
-pub mod Counted
+pub mod Taken

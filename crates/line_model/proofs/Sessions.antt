@@ -21,7 +21,9 @@ use Rattle.line_model.specs.Runs.{device, begin, whole, job, other_job, told_don
 use Rattle.line_model.specs.Sendings.{SendsRightly}
 use Rattle.line_model.specs.Told.{ToldTruly}
 use Rattle.line_model.specs.Tunnel.{Commissions}
+use Rattle.line_model.specs.Written.{AllWritten}
 use Rattle.line_model.proofs.Passes.{legal_by}
+use Rattle.line_model.proofs.Writings.{connect_written, ack_written, request_written}
 
 pub legal : (kept : NonVolatile) → IsLegal Commissions (begin kept) whole
 unfolding datagram_in ldata_in gateway_took frame_in device_took device_after device_answered after_answer apdu_in tpdu_in service_in
@@ -64,9 +66,13 @@ sends : (kept : NonVolatile) → SendsRightly (entries (placed (begin kept) whol
 unfolding datagram_in ldata_in gateway_took frame_in device_took device_after device_answered after_answer apdu_in tpdu_in service_in after_entry deed
 sends kept = (refl, (tt, (tt, (record { in_it = refl; numbered = refl; one_at_a_time = inl refl }, (refl, (tt, (refl, (tt, (refl, (tt, (tt, (record { in_it = refl; numbered = refl; one_at_a_time = inl refl }, (refl, (tt, (tt, (record { in_it = refl; numbered = refl; one_at_a_time = inl refl }, (tt, (tt, (tt, tt)))))))))))))))))))
 
+writes : (kept : NonVolatile) → AllWritten (entries (placed (begin kept) whole))
+unfolding datagram_in ldata_in gateway_took frame_in device_took device_after device_answered after_answer apdu_in tpdu_in service_in after_entry deed
+writes kept = (ack_written 4, (tt, (tt, (request_written 2 (0xC2 ∷ []), (ack_written 3, (tt, (ack_written 2, (tt, (ack_written 1, (tt, (tt, (request_written 1 (0x43 ∷ 0x00 ∷ []), (ack_written 0, (tt, (tt, (request_written 0 (0x80 ∷ []), (tt, (connect_written, (tt, tt)))))))))))))))))))
+
 asks : (kept : NonVolatile) → AsksRightly (job ∷ []) [] told_done (placed (begin kept) whole)
 unfolding datagram_in ldata_in gateway_took frame_in device_took device_after device_answered after_answer apdu_in tpdu_in service_in after_entry deed client_sent after_send client_took client_after client_expired after_overdue after_confirmed
 asks kept = record { acknowledges = acknowledges kept; each = (record { asks = tt; prompt = λ u e. refl }, (record { asks = tt; prompt = λ u e. refl }, (record { asks = tt; prompt = λ u e. refl }, (record { asks = record { frame = to_device (0xC2 ∷ []); reads = refl; request = refl; place = record { acknowledged = refl; has_confirmation = refl }; why = inr (record { k = 1; job = job; there = refl; worker = 1; since = 4; held = refl; alone = refl; to = refl; may = ([], refl) }) }; prompt = λ u e. refl }, (record { asks = tt; prompt = λ u e. refl }, (record { asks = tt; prompt = λ u e. refl }, (record { asks = tt; prompt = λ u e. refl }, (record { asks = tt; prompt = λ u e. refl }, (record { asks = tt; prompt = λ u e. refl }, (record { asks = tt; prompt = λ u e. refl }, (record { asks = tt; prompt = λ u e. refl }, (record { asks = record { frame = to_device (0x43 ∷ 0x00 ∷ []); reads = refl; request = refl; place = record { acknowledged = refl; has_confirmation = refl }; why = inr (record { k = 1; job = job; there = refl; worker = 1; since = 4; held = refl; alone = refl; to = refl; may = record { owes_nothing = refl; which = inl (record { session = record { partner = device; expected = 0; number = 0; last = 0 }; up = refl; goes_on = refl; expect = Is (0x03 ∷ 0x40 ∷ 0x07 ∷ 0xB0 ∷ []); next = λ answer. Over; head = refl; as_sent = refl }) } }) }; prompt = λ u e. refl }, (record { asks = tt; prompt = λ u e. refl }, (record { asks = tt; prompt = λ u e. refl }, (record { asks = tt; prompt = λ u e. refl }, (record { asks = record { frame = to_device (0x80 ∷ []); reads = refl; request = refl; place = record { acknowledged = refl; has_confirmation = refl }; why = inr (record { k = 1; job = job; there = refl; worker = 1; since = 4; held = refl; alone = refl; to = refl; may = omega arith }) }; prompt = λ u e. refl }, (record { asks = tt; prompt = λ u e. refl }, (record { asks = tt; prompt = λ u e. refl }, (record { asks = tt; prompt = λ u e. refl }, tt))))))))))))))))))) }
 
 pub disciplined : (kept : NonVolatile) → IsDisciplined (job ∷ []) [] 33 (placed (begin kept) whole) told_done
-disciplined kept = record { form = is_log kept; alone = alone; truly = truly kept; renews = renews kept; sends = sends kept; asks = asks kept }
+disciplined kept = record { form = is_log kept; alone = alone; truly = truly kept; renews = renews kept; sends = sends kept; writes = writes kept; asks = asks kept }

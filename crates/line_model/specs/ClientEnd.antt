@@ -30,6 +30,7 @@ use Rattle.line_model.specs.declared.put_refused.PutRefused.{PutRefused}
 use Rattle.line_model.specs.declared.put_refused.PutRefused.TheVariants as refused
 use Rattle.line_model.specs.Gateway.{acknowledgement_wait}
 use Rattle.line_model.specs.ChannelLost.{answer_wait, heartbeat_pause}
+use Rattle.line_model.specs.Written.{IsRequest}
 
 -- ---- what it knows
 
@@ -172,9 +173,11 @@ channel_deadline (JustLost channel) = None
 
 -- ---- a request that is to be put
 
--- the octets of a cEMI frame that a request can carry
-abbrev pub IsCemi : List ℕ → Type 0
-IsCemi cemi = (1 ≤ length cemi) × (length cemi ≤ 290)
+-- the octets of a cEMI frame that a request can carry, as they are written
+pub record IsCemi (cemi : List ℕ) : Type 0 where
+  pub some : 1 ≤ length cemi
+  pub fits : length cemi ≤ 290
+  pub is : IsRequest cemi
 
 abbrev pub is_free : Outstanding → Bool
 is_free Free = true

@@ -88,7 +88,7 @@ pub record HasNoCause (jobs : List Job) (log : List LogEntry) (r : List Entry) :
   pub no_flood : JobUnfinished jobs log → datagrams_taken r < flood
   pub right_line : first_elsewhere jobs (first_tunnel r) ≡ None
 
--- a fault of the link, or want of its memory, comes only where its count of that rose, which the link's own calls say
+-- that a fault of the link, or want of its memory, comes exactly where one of its calls failed so, its counts say
 abbrev pub HasCause : List Job → List LogEntry → List Entry → HubFault → Type 0
 HasCause jobs log r (NoMemory want) = Unit {0}
 HasCause jobs log r LinkFailed = Unit {0}

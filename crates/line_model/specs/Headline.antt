@@ -20,6 +20,7 @@ use Rattle.line_model.specs.Log.{Job, IsLog, OneDownloaderPerDevice}
 use Rattle.line_model.specs.Told.{ToldTruly}
 use Rattle.line_model.specs.Renews.{RenewsRightly}
 use Rattle.line_model.specs.Sendings.{SendsRightly}
+use Rattle.line_model.specs.Written.{AllWritten}
 use Rattle.line_model.specs.Asks.{AsksRightly}
 use Rattle.line_model.specs.OldStoppedOrNew.{OldStoppedOrNew, RunsJob, RunsWhereDone}
 use Rattle.line_model.specs.ActedOnce.{ActedOnce}
@@ -34,6 +35,7 @@ pub record IsDisciplined (jobs : List Job) (turns : List GroupTurn) (count : ℕ
   pub truly : ToldTruly jobs turns places log
   pub renews : RenewsRightly (entries places)
   pub sends : SendsRightly (entries places)
+  pub writes : AllWritten (entries places)
   pub asks : AsksRightly jobs turns log places
 
 -- what its type keeps over its link's story and its log

@@ -29,6 +29,7 @@ pub mod Faults
 -- 5. What the client keeps to
 pub mod Renews
 pub mod Sendings
+pub mod Written
 pub mod Attempts
 pub mod Asks
 pub mod Closing

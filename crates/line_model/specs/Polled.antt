@@ -1,12 +1,14 @@
 -- What the answer of a poll says of its link: the datagram that was got is the first octets of the buffer, at most 512; a quiet wait brings none.
--- And any call answers that the link failed, or that there was no memory, only where the link's count of that rose; neither count ever falls.
-use Rattle.std.specs.Prelude.{ℕ, ◌≤◌, List, take, Result, Ok, Err}
-use Rattle.knx_model.specs.Outside.{Rose, one_more}
+-- And how calls that failed are counted, and those that found no memory: each answer that is a fault once, in the count that is its own, and no other answer.
+use Rattle.std.specs.Prelude.{ℕ, ◌≤◌, List, take, Option, Some, None, Result, Ok, Err}
+use Rattle.knx_model.specs.Outside.{one_more}
+use Rattle.line_model.specs.declared.fault.HubFault.{HubFault}
+use Rattle.line_model.specs.declared.fault.HubFault.TheVariants as run
+use Rattle.line_model.specs.declared.outside.fault_counts.FaultCounts.{FaultCounts}
 use Rattle.line_model.specs.declared.outside.link.LinkFault.{LinkFault}
 use Rattle.line_model.specs.declared.outside.link.LinkFault.TheVariants as fault
 use Rattle.line_model.specs.declared.outside.link.Polled.{Polled}
 use Rattle.line_model.specs.declared.outside.link.Polled.TheVariants as answer
-use Rattle.line_model.specs.declared.outside.link_counts.LinkCounts.{LinkCounts}
 use Rattle.line_model.specs.Record.{Got, Quiet, longest_got}
 use Rattle.line_model.specs.LinkStory.{Story, Polls, PollsNothing}
 
@@ -20,18 +22,29 @@ PollsSo (Err fault) into wait clock before after = PollsNothing wait before afte
 
 -- ---- how many calls failed, and how many found no memory
 
-abbrev pub none_failed : LinkCounts
+abbrev pub none_failed : FaultCounts
 none_failed = record { failed = 0; wanting = 0 }
 
-abbrev pub after_call : {X : Type 0} → Result X LinkFault → LinkCounts → LinkCounts
+abbrev pub one_failed : FaultCounts → FaultCounts
+one_failed counts = record counts { failed = one_more counts.failed }
+
+abbrev pub one_wanting : FaultCounts → FaultCounts
+one_wanting counts = record counts { wanting = one_more counts.wanting }
+
+-- after a call of a link that answered so
+abbrev pub after_link_fault : LinkFault → FaultCounts → FaultCounts
+after_link_fault (fault.NoMemory want) counts = one_wanting counts
+after_link_fault fault.Failed counts = one_failed counts
+
+abbrev pub after_call : {X : Type 0} → Result X LinkFault → FaultCounts → FaultCounts
 after_call (Ok x) counts = counts
-after_call (Err (fault.NoMemory want)) counts = record counts { wanting = one_more counts.wanting }
-after_call (Err fault.Failed) counts = record counts { failed = one_more counts.failed }
+after_call (Err why) counts = after_link_fault why counts
 
-abbrev pub NeverFall : LinkCounts → LinkCounts → Type 0
-NeverFall old new = (old.failed ≤ new.failed) × (old.wanting ≤ new.wanting)
-
-abbrev pub FailsWhere : {X : Type 0} → Result X LinkFault → LinkCounts → LinkCounts → Type 0
-FailsWhere (Ok x) old new = Unit {0}
-FailsWhere (Err (fault.NoMemory want)) old new = Rose old.wanting new.wanting
-FailsWhere (Err fault.Failed) old new = Rose old.failed new.failed
+-- the counts of a link, by the fault that its client told: that one call, and no other
+abbrev pub after_fault : Option HubFault → FaultCounts → FaultCounts
+after_fault None counts = counts
+after_fault (Some (run.NoMemory want)) counts = one_wanting counts
+after_fault (Some run.LinkFailed) counts = one_failed counts
+after_fault (Some (run.GatewayRefused three)) counts = counts
+after_fault (Some run.Flooded) counts = counts
+after_fault (Some (run.WrongLine device tunnel)) counts = counts

@@ -1,7 +1,7 @@
 -- What a port tells of itself: nothing, as a socket, or its record: what was taken, and from whom, the quiet waits and how long each was, and what was given, and to
 -- whom, in order, the newest first. A port serves clients that it doesn't know; each is named by a number.
 use Rattle.std.specs.Prelude.{◌≡◌, ℕ, ◌≤◌, ◌⊎◌, List, [], ◌∷◌, take, Result, Ok, Err}
-use Rattle.knx_model.specs.Outside.{Rose}
+use Rattle.knx_model.specs.Outside.{one_more}
 use Rattle.line_model.specs.declared.outside.port.PortFault.{PortFault}
 use Rattle.line_model.specs.declared.outside.port.PortFault.TheVariants as fault
 use Rattle.line_model.specs.declared.outside.port.PortPolled.{PortPolled}
@@ -40,7 +40,11 @@ TakesSo (Err fault) into wait before after = after ≡ before
 abbrev pub GivesOrNot : ℕ → List ℕ → PortStory → PortStory → Type 0
 GivesOrNot to octets before after = Adds (Gave to octets) before after ⊎ (after ≡ before)
 
-abbrev pub FailsWhere : {X : Type 0} → Result X PortFault → ℕ → ℕ → Type 0
-FailsWhere (Ok x) old new = Unit {0}
-FailsWhere (Err (fault.NoMemory want)) old new = Unit {0}
-FailsWhere (Err fault.Failed) old new = Rose old new
+-- how many calls failed, after one that answered so; want of memory isn't counted
+abbrev pub after_port_fault : PortFault → ℕ → ℕ
+after_port_fault (fault.NoMemory want) count = count
+after_port_fault fault.Failed count = one_more count
+
+abbrev pub after_call : {X : Type 0} → Result X PortFault → ℕ → ℕ
+after_call (Ok x) count = count
+after_call (Err why) count = after_port_fault why count

@@ -24,7 +24,7 @@ pub use laws::{
 };
 pub use log::{LogEntry, LogWhat, Report};
 pub use outside::{
-    DialFailed, Dialer, Gate, JobProgress, Link, LinkCounts, LinkFault, Open, Polled, Port,
+    DialFailed, Dialer, FaultCounts, Gate, JobProgress, Link, LinkFault, Open, Polled, Port,
     PortFault, PortPolled, Watcher,
 };
 pub use poll_wait::{LONGEST_POLL_MS, until};

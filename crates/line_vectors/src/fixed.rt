@@ -245,7 +245,7 @@ fn a_dialer_hands_each_out_once(rt: HostRuntime) -> Result<(), Fail> {
     }
     assert_eq!(rt; handed_out, 2);
     assert_eq!(rt; dialer.dials(), 4);
-    assert_eq!(rt; dialer.faults(), 2);
+    assert_eq!(rt; dialer.counts().failed, 2);
     assert!(rt; dialer.given().is_some_and(|at| at.port == 3671));
     assert!(rt; dialer.link_back().is_some());
     assert!(rt; dialer.port_back().is_some());

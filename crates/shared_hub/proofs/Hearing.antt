@@ -5,7 +5,7 @@ use Rattle.std.proofs.lemmas.List.{reverse-append}
 use Rattle.line_model.specs.declared.fault.HubFault.{HubFault}
 use Rattle.line_model.specs.declared.group.Indication.{Indication}
 use Rattle.line_model.specs.ClientView.{indications}
-use Rattle.line_model.specs.declared.outside.link_counts.LinkCounts.{LinkCounts}
+use Rattle.line_model.specs.declared.outside.fault_counts.FaultCounts.{FaultCounts}
 use Rattle.line_model.specs.Lines.{Script}
 use Rattle.line_model.specs.LinkStory.{Story, Untold, Recorded, Full, IsNewLink, record_in, places_in}
 use Rattle.line_model.specs.Record.{Entry, entries, counted, placed, record_of}
@@ -57,19 +57,19 @@ module _ {L : Type 0} (old new : Seen L) (told : List Indication) (story_of : L 
   before : old.fault ≡ None → HeardIn old.fault old.missed told (record_in (story_of old.link)) → HeardIn None old.missed told (record_in (story_of old.link))
   before stood h = subst (λ (f : Option HubFault). HeardIn f old.missed told (record_in (story_of old.link))) stood h
 
-  pub hears_none_so : (one : Option Indication) → one ≡ None → {script_of : L → Script} {faults_of : L → LinkCounts} → Since story_of script_of faults_of old new → old.fault ≡ None → new.fault ≡ None → HearsSo one (story_of old.link) (story_of new.link)
+  pub hears_none_so : (one : Option Indication) → one ≡ None → {script_of : L → Script} {faults_of : L → FaultCounts} → Since story_of script_of faults_of old new → old.fault ≡ None → new.fault ≡ None → HearsSo one (story_of old.link) (story_of new.link)
       → HeardIn old.fault old.missed told (record_in (story_of old.link)) → HeardIn new.fault new.missed told (record_in (story_of new.link))
   hears_none_so one is since stood stands hears h =
       subst (λ (f : Option HubFault). HeardIn f new.missed told (record_in (story_of new.link))) (sym stands)
       (subst (λ (n : ℕ). HeardIn None n told (record_in (story_of new.link))) (sym since.run.missed) (hears_none None old.missed told one (story_of old.link) (story_of new.link) is since.grows hears (before stood h)))
 
-  pub hears_failed_so : (why : HubFault) → new.fault ≡ Some why → HearsFew (story_of old.link) (story_of new.link) → {script_of : L → Script} {faults_of : L → LinkCounts} → Since story_of script_of faults_of old new → old.fault ≡ None → HeardIn old.fault old.missed told (record_in (story_of old.link)) → HeardIn new.fault new.missed told (record_in (story_of new.link))
+  pub hears_failed_so : (why : HubFault) → new.fault ≡ Some why → HearsFew (story_of old.link) (story_of new.link) → {script_of : L → Script} {faults_of : L → FaultCounts} → Since story_of script_of faults_of old new → old.fault ≡ None → HeardIn old.fault old.missed told (record_in (story_of old.link)) → HeardIn new.fault new.missed told (record_in (story_of new.link))
   hears_failed_so why failed few since stood h =
       subst (λ (f : Option HubFault). HeardIn f new.missed told (record_in (story_of new.link))) (sym failed)
       (subst (λ (n : ℕ). HeardIn (Some why) n told (record_in (story_of new.link))) (sym since.run.missed) (hears_failed why old.missed told (story_of old.link) (story_of new.link) since.grows few (before stood h)))
 
 -- what it heard was then kept, or counted as missed
-pub hears_one_so : {L : Type 0} (old new after : Seen L) (told now : List Indication) (story_of : L → Story) (one : Indication) (heard : Option Indication) → heard ≡ Some one → {script_of : L → Script} {faults_of : L → LinkCounts} → Since story_of script_of faults_of old new → old.fault ≡ None → new.fault ≡ None
+pub hears_one_so : {L : Type 0} (old new after : Seen L) (told now : List Indication) (story_of : L → Story) (one : Indication) (heard : Option Indication) → heard ≡ Some one → {script_of : L → Script} {faults_of : L → FaultCounts} → Since story_of script_of faults_of old new → old.fault ≡ None → new.fault ≡ None
     → HearsSo heard (story_of old.link) (story_of new.link) → SameButMissed new after → KeepsOrMisses one told now new.missed after.missed → HeardIn old.fault old.missed told (record_in (story_of old.link)) → HeardIn after.fault after.missed now (record_in (story_of after.link))
 hears_one_so {L = L} old new after told now story_of one heard is since stood stands hears same keeping h =
     subst (λ (f : Option HubFault). HeardIn f after.missed now (record_in (story_of after.link))) (sym (same.fault ∙ stands))

@@ -2,7 +2,7 @@
 use Rattle.std.proofs.Common.{◌≡◌, ℕ, List, [], length, reverse, Some, None, refl, sym, ap, subst, ◌∙◌, arith}
 use Rattle.std.specs.List.{AllByRecursion}
 use Rattle.knx_model.specs.declared.address.IndAddr.{IndAddr}
-use Rattle.line_model.specs.declared.fault.HubFault.{HubFault}
+use Rattle.line_model.specs.declared.fault.HubFault.TheVariants.{NoMemory}
 use Rattle.line_model.specs.declared.group.GroupTurn.{GroupTurn}
 use Rattle.line_model.specs.declared.group.Indication.{Indication}
 use Rattle.line_model.specs.declared.log.LogEntry.{LogEntry}
@@ -15,7 +15,7 @@ use Rattle.line_model.specs.Log.{Job, IsLog, OneDownloaderPerDevice, TakenInOrde
 use Rattle.line_model.specs.Record.{Placed, entries, placed, counted}
 use Rattle.line_law.specs.Safe.{IsSafe, KeepsSafe, EverySafeInterleaving}
 use Rattle.hub_work.specs.Downloaders.{Task}
-use Rattle.hub_core.specs.Commissioned.{IsNoMemory, TellsRun, log_of}
+use Rattle.hub_core.specs.Commissioned.{TellsRun, log_of}
 use Rattle.hub_core.specs.Promises.{FaultRightIn, HastensIn, IsRightOver, IsSafeOver, DropsIn, LeavesOver}
 use Rattle.hub_core.specs.Thorough.{IsThorough, IsThoroughOver}
 use Rattle.hub_core.specs.Seats.{IsOfWorkers}
@@ -27,7 +27,7 @@ use Rattle.shared_hub.proofs.Hearing.{new_hears_none}
 use Rattle.shared_hub.proofs.Told.{no_memory}
 
 abbrev disciplined : (jobs : List Job) (turns : List GroupTurn) → IsDisciplined jobs turns 0 [] []
-disciplined jobs turns = record { form = tt; alone = tt; truly = tt; renews = tt; sends = tt; asks = record { each = tt; acknowledges = tt } }
+disciplined jobs turns = record { form = tt; alone = tt; truly = tt; renews = tt; sends = tt; writes = tt; asks = record { each = tt; acknowledges = tt } }
 
 new_keeps : (jobs : List Job) (turns : List GroupTurn) (s : Story) → IsNewLink s → Keeps jobs turns s []
 new_keeps jobs turns Untold new = tt
@@ -90,18 +90,18 @@ new_drops_none (Recorded clock r) new = subst (λ r. DropsIn 0 (Some r)) (sym ne
 new_drops_none (Full start events) new = subst (λ es. DropsIn 0 (record_in (Full start es))) (sym new.0) refl
 
 -- want of memory for the hub
-module _ (law : EverySafeInterleaving) (workers : ℕ) (tasks : List Task) (devices : List IndAddr) (turns : List GroupTurn) (s : Story) (place : ℕ) (report : Report) (why : HubFault) where
-  pub new_tells : IsNewLink s → report.log ≡ [] → report.heard ≡ [] → report.missed ≡ 0 → report.dropped ≡ 0 → report.fault ≡ Some why → IsNoMemory why → TellsRun workers tasks devices turns s place report
-  new_tells new none none_heard none_missed none_dropped fault wants =
+module _ (law : EverySafeInterleaving) (workers : ℕ) (tasks : List Task) (devices : List IndAddr) (turns : List GroupTurn) (s : Story) (place : ℕ) (report : Report) where
+  pub new_tells : IsNewLink s → report.log ≡ [] → report.heard ≡ [] → report.missed ≡ 0 → report.dropped ≡ 0 → report.fault ≡ Some (NoMemory tt) → TellsRun workers tasks devices turns s place report
+  new_tells new none none_heard none_missed none_dropped fault =
       let empty : [] ≡ log_of report = sym (ap reverse none) in
-      let faulty : report.fault ≡ None → ⊥ = λ fine. let z : Some why ≡ None = sym fault ∙ fine in cc in
+      let faulty : report.fault ≡ None → ⊥ = λ fine. let z : Some (NoMemory tt) ≡ None = sym fault ∙ fine in cc in
       record {
         headline = λ jobs are. subst (λ (l : List LogEntry). Keeps jobs turns s l) empty (new_keeps jobs turns s new);
         safe = λ jobs are. subst (λ (l : List LogEntry). IsSafeOver jobs turns s l) empty (new_safe jobs turns s new);
         thorough = λ jobs are. subst (λ (l : List LogEntry). IsThoroughOver jobs s l) empty (new_thorough jobs s new);
         hastens = λ jobs are. subst (λ (l : List LogEntry). HastensIn jobs turns l s) empty (new_hastens jobs turns s new);
         right = λ jobs are good. subst (λ (l : List LogEntry). IsRightOver jobs s l) empty (new_right law jobs s good new);
-        fault = λ jobs are. subst (λ f. FaultRightIn jobs (log_of report) f (record_in s)) (sym fault) (no_memory jobs (log_of report) why (record_in s) wants);
+        fault = λ jobs are. subst (λ f. FaultRightIn jobs (log_of report) f (record_in s)) (sym fault) (no_memory jobs (log_of report) (record_in s));
         dropped = subst (λ n. DropsIn n (record_in s)) (sym none_dropped) (new_drops_none s new);
         form = λ jobs are. subst (λ (l : List LogEntry). IsLog jobs turns place l) empty tt;
         alone = λ jobs are. subst (λ (l : List LogEntry). OneDownloaderPerDevice jobs l) empty tt;

@@ -8,7 +8,7 @@ use Rattle.line_model.specs.declared.group.GroupTurn.{GroupTurn}
 use Rattle.line_model.specs.declared.group.Indication.{Indication}
 use Rattle.line_model.specs.declared.log.LogEntry.{LogEntry}
 use Rattle.line_model.specs.declared.log.LogWhat.{LogWhat}
-use Rattle.line_model.specs.declared.outside.link_counts.LinkCounts.{LinkCounts}
+use Rattle.line_model.specs.declared.outside.fault_counts.FaultCounts.{FaultCounts}
 use Rattle.line_model.specs.Lines.{Script}
 use Rattle.line_model.specs.Leaves.{IsFinished}
 use Rattle.line_model.specs.Log.{Job, TurnUnfinished}
@@ -43,7 +43,7 @@ use Rattle.shared_hub.proofs.Still.{called, counted, going, through_still}
 
 -- ---- what is kept
 
-module _ {L : Type 0} (story_of : L → Story) (script_of : L → Script) (faults_of : L → LinkCounts) where
+module _ {L : Type 0} (story_of : L → Story) (script_of : L → Script) (faults_of : L → FaultCounts) where
   pub begins_so : (hub opening : Seen L) (feed : Feeding) (relay : TableId) → opening ≡ hub → feed ≡ first_feed relay → IsOpening story_of hub → SiteKeeps story_of script_of faults_of hub opening feed relay
   begins_so hub opening feed relay same new o =
       subst (λ (f : Feeding). SiteKeeps story_of script_of faults_of hub opening f relay) (sym new)

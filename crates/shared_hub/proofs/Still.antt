@@ -1,6 +1,6 @@
 -- A hub of which no more changes than how many indications it counts as missed stays as it is in all else; and hubs that go on, whatever they count as missed.
 use Rattle.std.proofs.Common.{◌≡◌, length, refl, sym, ap, subst}
-use Rattle.line_model.specs.declared.outside.link_counts.LinkCounts.{LinkCounts}
+use Rattle.line_model.specs.declared.outside.fault_counts.FaultCounts.{FaultCounts}
 use Rattle.line_model.specs.Lines.{Script}
 use Rattle.line_model.specs.LinkStory.{Story}
 use Rattle.hub_core.specs.Left.{AllDone}
@@ -27,10 +27,10 @@ module _ {L : Type 0} (old new : Seen L) (s : SameButMissed old new) where
     pub far_still : KnowsHowFar old (story_of old.link) → KnowsHowFar new (story_of new.link)
     far_still k = subst (λ (h : Seen L). KnowsHowFar h (story_of h.link)) (sym is_still) k
 
-module _ {L : Type 0} (story_of : L → Story) (script_of : L → Script) (faults_of : L → LinkCounts) where
+module _ {L : Type 0} (story_of : L → Story) (script_of : L → Script) (faults_of : L → FaultCounts) where
   -- a call of the hub, and what only counts
   pub called : {old new : Seen L} → Since story_of script_of faults_of old new → GoesOnFrom story_of script_of faults_of old new
-  called s = record { grows = s.grows; script = s.script; run = record { tasks = s.run.tasks; devices = s.run.devices; turns = s.run.turns; workers = s.run.workers; missed = refl }; count = s.count; caused = s.caused }
+  called s = record { grows = s.grows; script = s.script; run = record { tasks = s.run.tasks; devices = s.run.devices; turns = s.run.turns; workers = s.run.workers; missed = refl }; counts = s.counts }
 
   pub counted : {old new : Seen L} → SameButMissed old new → GoesOnFrom story_of script_of faults_of old new
   counted {old = old} {new = new} s =
@@ -39,4 +39,4 @@ module _ {L : Type 0} (story_of : L → Story) (script_of : L → Script) (fault
   -- one after the other
   pub going : (a b c : Seen L) → GoesOnFrom story_of script_of faults_of a b → GoesOnFrom story_of script_of faults_of b c → GoesOnFrom story_of script_of faults_of a c
   going a b c first then = since_again {story_of = story_of} {script_of = script_of} {faults_of = faults_of} {a = a} {b = record b { missed = a.missed }} {c = record c { missed = a.missed }} first
-      (record { grows = then.grows; script = then.script; run = record { tasks = then.run.tasks; devices = then.run.devices; turns = then.run.turns; workers = then.run.workers; missed = refl }; count = then.count; caused = then.caused })
+      (record { grows = then.grows; script = then.script; run = record { tasks = then.run.tasks; devices = then.run.devices; turns = then.run.turns; workers = then.run.workers; missed = refl }; counts = then.counts })

@@ -3,7 +3,7 @@
 use Rattle.std.specs.Prelude.{◌≡◌, ◌⊎◌, ℕ, ◌+◌, ◌≤◌, min, ◌^◌, ◌-◌, List, [], ◌∷◌, ◌++◌, length, Some}
 use Rattle.line_model.specs.declared.group.Indication.{Indication}
 use Rattle.telegram_router.specs.Ends.{Hearing, HasHeardAll}
-use Rattle.line_model.specs.declared.outside.link_counts.LinkCounts.{LinkCounts}
+use Rattle.line_model.specs.declared.outside.fault_counts.FaultCounts.{FaultCounts}
 use Rattle.line_model.specs.Lines.{Script}
 use Rattle.line_model.specs.LinkStory.{Story}
 use Rattle.hub_core.specs.Hears.{HearsSo}
@@ -47,7 +47,7 @@ pub record SameButMissed {L : Type 0} (old new : Seen L) : Type 0 where
   pub closing : new.closing ≡ old.closing
 
 -- a hub that goes on, whatever it counts as missed
-abbrev pub GoesOnFrom : {L : Type 0} → (L → Story) → (L → Script) → (L → LinkCounts) → Seen L → Seen L → Type 0
+abbrev pub GoesOnFrom : {L : Type 0} → (L → Story) → (L → Script) → (L → FaultCounts) → Seen L → Seen L → Type 0
 GoesOnFrom story_of script_of faults_of old new = Since story_of script_of faults_of old (record new { missed = old.missed })
 
 -- a call took one group indication

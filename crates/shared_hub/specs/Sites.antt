@@ -3,7 +3,7 @@ use Rattle.std.specs.Prelude.{◌≡◌, List, [], ◌∷◌, ◌++◌, length, 
 use Rattle.std.specs.declared.snapshot.Snapshot.{Snapshot}
 use Rattle.atomic_table.specs.Seated.{TableId}
 use Rattle.line_model.specs.declared.fault.HubFault.{HubFault}
-use Rattle.line_model.specs.declared.outside.link_counts.LinkCounts.{LinkCounts}
+use Rattle.line_model.specs.declared.outside.fault_counts.FaultCounts.{FaultCounts}
 use Rattle.line_model.specs.Lines.{Script}
 use Rattle.line_model.specs.LinkStory.{Story, IsNewLink, record_in}
 use Rattle.hub_core.specs.Heard.{HeardIn}
@@ -45,7 +45,7 @@ pub record IsOpening {L : Type 0} (story_of : L → Story) (hub : Seen L) : Type
 
 -- ---- what is kept
 
-pub record SiteKeeps {L : Type 0} (story_of : L → Story) (script_of : L → Script) (faults_of : L → LinkCounts) (hub opening : Seen L) (feed : Feeding) (relay : TableId) : Type 0 where
+pub record SiteKeeps {L : Type 0} (story_of : L → Story) (script_of : L → Script) (faults_of : L → FaultCounts) (hub opening : Seen L) (feed : Feeding) (relay : TableId) : Type 0 where
   -- the hub goes on since it began
   pub since : GoesOnFrom story_of script_of faults_of opening hub
   pub begun : opening.fault ≡ None

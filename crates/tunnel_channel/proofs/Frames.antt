@@ -28,4 +28,4 @@ ack_read c n = refl
 
 pub request_read : (c n : ℕ) (cemi : List ℕ) → IsCemi cemi → datagram_in (Written (TunnellingRequest c n cemi)) ≡ Some (TunnellingRequest c n cemi)
 unfolding datagram_in
-request_read c n cemi h = grind (arith, common_steps)
+request_read c n cemi h = let some = h.some in let fits = h.fits in grind (arith, common_steps)

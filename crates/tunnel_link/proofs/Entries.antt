@@ -10,6 +10,7 @@ use Rattle.line_model.specs.ClientView as seen
 use Rattle.line_model.specs.ClientView.{ClientChannel, channel, after_entry, Puts, Nothing, deed}
 use Rattle.line_model.specs.Renews.{RenewsSo, IsOwed, owed, owed_in}
 use Rattle.line_model.specs.Sendings.{IsRightItem}
+use Rattle.line_model.specs.Written.{IsWritten, IsWrittenItem}
 use Rattle.line_model.specs.Leaves.{PartsSo, parting_of}
 use Rattle.line_model.specs.Dropped as drop
 use Rattle.line_model.specs.Faults.{tries, tries_after, datagrams_taken}
@@ -76,11 +77,12 @@ put_still r octets now h = put_still_by (channel r) octets now h
 
 -- ---- always right
 
-pub put_right : (k : Known) (r : List Entry) (octets : List ℕ) (now : ℕ) → IsRight k r → IsOwed (owed r) (entry (Put octets) now) → IsRightItem r (entry (Put octets) now) (Put octets) → RenewsSo r (entry (Put octets) now)
+pub put_right : (k : Known) (r : List Entry) (octets : List ℕ) (now : ℕ) → IsRight k r → IsWritten octets → IsOwed (owed r) (entry (Put octets) now) → IsRightItem r (entry (Put octets) now) (Put octets) → RenewsSo r (entry (Put octets) now)
     → PartsSo r (entry (Put octets) now) → IsRight k (entry (Put octets) now ∷ r)
-put_right k r octets now right owes may renews parts = record {
+put_right k r octets now right written owes may renews parts = record {
   renews = (renews, right.renews);
   sends = (may, right.sends);
+  writes = (written, right.writes);
   acknowledges = (owes, right.acknowledges);
   parts = (parts, right.parts);
   drops = right.drops;
@@ -108,6 +110,7 @@ pub renewed_right : (k : Known) (r : List Entry) (now : ℕ) → IsRight k r →
 renewed_right k r now right paid parted renews = record {
   renews = (renews, right.renews);
   sends = (tt, right.sends);
+  writes = (tt, right.writes);
   acknowledges = (rw paid tt, right.acknowledges);
   parts = (renewed_parts r now parted, right.parts);
   drops = right.drops;
@@ -127,11 +130,18 @@ poll_may r Renewed now p = absurd (cc)
 poll_may r (Got octets) now p = tt
 poll_may r Quiet now p = tt
 
+poll_written : (what : Item) → is_poll what ≡ true → IsWrittenItem what
+poll_written (Put octets) p = absurd (cc)
+poll_written Renewed p = absurd (cc)
+poll_written (Got octets) p = tt
+poll_written Quiet p = tt
+
 pub poll_right : (k next : Known) (r : List Entry) (what : Item) (now : ℕ) → is_poll what ≡ true → owed r ≡ None → IsRight k r → next.dropped ≡ at_most_64_bits (drop.dropped (entry what now ∷ r))
     → next.taken ≡ at_most_64_bits (datagrams_taken (entry what now ∷ r)) → FitsFault next.fault (tries (entry what now ∷ r)) → IsRight next (entry what now ∷ r)
 poll_right k next r what now p paid right d t f = record {
   renews = (poll_renews r what now p, right.renews);
   sends = (poll_may r what now p, right.sends);
+  writes = (poll_written what p, right.writes);
   acknowledges = (rw paid tt, right.acknowledges);
   parts = (poll_parts r what now p, right.parts);
   drops = d;
@@ -152,6 +162,7 @@ pub failed_right : (k : Known) (r : List Entry) (fault : HubFault) → IsntRefus
 failed_right k r fault n right = record {
   renews = right.renews;
   sends = right.sends;
+  writes = right.writes;
   acknowledges = right.acknowledges;
   parts = right.parts;
   drops = right.drops;

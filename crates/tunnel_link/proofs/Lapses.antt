@@ -11,7 +11,7 @@ use Rattle.line_model.specs.Reading.{datagram_in, disconnect_request_in}
 use Rattle.line_model.specs.Record.{Entry, Placed, entries}
 use Rattle.line_model.specs.LinkStory.{newest_time}
 use Rattle.line_model.specs.ClientView as seen
-use Rattle.line_model.specs.ClientView.{ClientChannel, channel, Nothing, deed}
+use Rattle.line_model.specs.ClientView.{channel, Nothing}
 use Rattle.line_model.specs.ChannelLost.{answer_wait}
 use Rattle.line_model.specs.Renews.{owed}
 use Rattle.line_model.specs.Leaves.{parting_of}
@@ -90,6 +90,7 @@ pub right_tried : (k : Known) (r : List Entry) (failed : Try) → length (tries_
 right_tried k r failed few is right = record {
   renews = right.renews;
   sends = right.sends;
+  writes = right.writes;
   acknowledges = right.acknowledges;
   parts = right.parts;
   drops = right.drops;
@@ -109,6 +110,7 @@ leaves_lost k r c at failed few paid parting right =
     let octets : List ℕ = Written (DisconnectRequest c) in
     record {
       right = right_with k (gone k) r refl refl refl right;
+      written = record { frame = DisconnectRequest c; carries = tt; is = refl };
       owes = rw paid tt;
       may = rw (leave_read c, at) refl;
       renews = renews_other r octets (DisconnectRequest c) now (leave_read c) refl;

@@ -4,8 +4,8 @@ pub mod AloneCalls
 pub mod Beats
 pub mod CallAnswers
 pub mod CallsKept
-pub mod Caused
 pub mod Clock
+pub mod Counted
 pub mod Deadlines
 pub mod DueLate
 pub mod Ended
@@ -39,5 +39,6 @@ pub mod TakesRows
 pub mod TakesSends
 pub mod Times
 pub mod Waited
+pub mod Writings
 pub mod Nearest
 pub mod Lasting

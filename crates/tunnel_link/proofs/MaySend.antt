@@ -9,6 +9,7 @@ use Rattle.line_model.specs.ClientView.{ClientChannel, channel, Deed, deed}
 use Rattle.line_model.specs.ChannelLost.{own, acknowledged, confirmed, beats, is_given_up, is_unconfirmed, is_dead, has_lapsed}
 use Rattle.line_model.specs.Renews.{RenewsSo, IsOwed, owed}
 use Rattle.line_model.specs.Sendings.{IsRightItem}
+use Rattle.line_model.specs.Written.{IsWritten}
 use Rattle.line_model.specs.Leaves.{PartsSo}
 use Rattle.line_model.specs.Faults.{tries}
 use Rattle.line_model.specs.ClientEnd.{ClientEnd, Idle, Seeking, Open, Leaving, JustLost, OpenEnd, is_over}
@@ -94,6 +95,7 @@ open_now (JustLost d) t c l f = absurd (cc)
 
 pub record Sending (k : Known) (octets : List ℕ) (does : Deed) (r : List Entry) : Type 0 where
   pub right : IsRight k r
+  pub written : IsWritten octets
   pub owes : IsOwed (owed r) (entry (Put octets) (newest_time r))
   pub may : IsRightItem r (entry (Put octets) (newest_time r)) (Put octets)
   pub renews : RenewsSo r (entry (Put octets) (newest_time r))
@@ -102,7 +104,7 @@ pub record Sending (k : Known) (octets : List ℕ) (does : Deed) (r : List Entry
   pub did : deed (channel r) (entry (Put octets) (newest_time r)) ≡ does
 
 pub sent_right : (k : Known) (octets : List ℕ) (does : Deed) (r : List Entry) → Sending k octets does r → IsRight k (entry (Put octets) (newest_time r) ∷ r)
-sent_right k octets does r s = put_right k r octets (newest_time r) s.right s.owes s.may s.renews s.parts
+sent_right k octets does r s = put_right k r octets (newest_time r) s.right s.written s.owes s.may s.renews s.parts
 
 pub sent_kept : (k : Known) (octets : List ℕ) (does : Deed) (r : List Entry) → Sending k octets does r → IsKept k (entry (Put octets) (newest_time r) ∷ r)
 sent_kept k octets does r s = record { right = sent_right k octets does r s; fits = s.fits }

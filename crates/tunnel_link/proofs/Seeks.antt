@@ -93,6 +93,7 @@ module _ (k : Known) (r : List Entry) (f : FitsRecord k r) (right : IsRight k r)
       let failed : (Rattle.line_model.specs.Faults.tries all ≡ Rattle.line_model.specs.Faults.tries r) = put_tries more (Written ConnectRequest) now ∙ same_tries r now in
       record {
         right = right_with k (with_connect k now) more refl refl refl renewed_so;
+        written = record { frame = ConnectRequest; carries = tt; is = refl };
         owes = rw (renewed_paid r now) tt;
         may = (c.sends refl).may;
         renews = c.right refl;

@@ -29,11 +29,13 @@ use Rattle.tunnel_link.proofs.Entries.{put_still}
 use Rattle.tunnel_link.proofs.PutLast.{put_of, sent_put}
 use Rattle.tunnel_link.proofs.MaySend.{fits_of, not_over, Sending, open_sent}
 use Rattle.tunnel_link.proofs.Partings.{put_parts}
+use Rattle.tunnel_link.proofs.Writings.{channel_written, due_written, put_written}
 
 pub right_with : (k next : Known) (r : List Entry) → next.dropped ≡ k.dropped → next.taken ≡ k.taken → next.fault ≡ k.fault → IsRight k r → IsRight next r
 right_with k next r d t f right = record {
   renews = right.renews;
   sends = right.sends;
+  writes = right.writes;
   acknowledges = right.acknowledges;
   parts = right.parts;
   drops = d ∙ right.drops;
@@ -98,6 +100,7 @@ module _ (k : Known) (r : List Entry) (f : FitsRecord k r) where
       let o = due_open k.channel (channel r) (newest_time r) octets f.end h in
       record {
         right = right_with k (with_due k (newest_time r)) r refl refl refl right;
+        written = due_written k.channel (channel r) (newest_time r) octets f.end (channel_written r right.writes) h;
         owes = rw f.paid tt;
         may = s.may;
         renews = expires.right octets h;
@@ -123,6 +126,7 @@ put_sends k r cemi octets f right i h =
     let o = put_open k.channel (channel r) cemi octets f.end h in
     record {
       right = right_with k (with_put k cemi now) r refl refl refl right;
+      written = put_written k.channel cemi octets i h;
       owes = rw f.paid tt;
       may = p.sends.may;
       renews = p.right;
@@ -204,6 +208,7 @@ leave_sends k r octets f right h =
     let o = leave_open k.channel (channel r) octets f.end h in
     record {
       right = right_with k (with_leave k) r refl refl refl right;
+      written = record { frame = DisconnectRequest a.c; carries = tt; is = a.is };
       owes = rw f.paid tt;
       may = s.may;
       renews = renews_other r octets (DisconnectRequest a.c) now (asks_read octets a) refl;

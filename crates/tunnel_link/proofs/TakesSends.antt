@@ -9,7 +9,7 @@ use Rattle.line_model.specs.declared.client_end.ChannelTook.TheVariants as took
 use Rattle.line_model.specs.Reading.{datagram_in, ldata_in, is_con, is_connect_request, disconnect_request_in}
 use Rattle.line_model.specs.Record.{Put, Entry, entry}
 use Rattle.line_model.specs.ClientView as seen
-use Rattle.line_model.specs.ClientView.{ClientChannel, channel, Deed, Takes, Loses, Nothing, is_stray, traffic, deed}
+use Rattle.line_model.specs.ClientView.{ClientChannel, channel, Takes, Loses, Nothing, is_stray, traffic, deed}
 use Rattle.line_model.specs.Moments.{Moment}
 use Rattle.line_model.specs.Signs.{Every}
 use Rattle.line_model.specs.ClientEnd.{ClientEnd, Idle, Seeking, Open, Leaving, JustLost, is_over}
@@ -31,15 +31,17 @@ use Rattle.tunnel_link.proofs.Beats.{InTimeAt}
 use Rattle.tunnel_link.proofs.Partings.{put_parts, parting_sent, IsEnding, ending, PartsBy, Requested, Responded, Told, parts_by, loses_it, parting_is, is_answered, idle_loses, lost_idle, AnswersIt, answers_it}
 use Rattle.tunnel_link.specs.Adds.{One}
 use Rattle.tunnel_link.proofs.PutLast.{last_is, other_confirms, taken_deed, unread_confirms}
+use Rattle.tunnel_link.proofs.Writings.{answer_written}
 use Rattle.tunnel_link.proofs.TakesRows.{TakenSo, IsCounted, x, Frame, Row, changes, calm_right, undropped, dropped_up, failed_stay, few_stay, unowed, fits_next, fits_acked, flies_same, put_same, did_nothing, did_lose, did_take, opens_nothing, all_nothing, unparted}
 
 module _ (k : Known) (r : List Entry) (f : FitsRecord k r) (right : IsRight k r) (calm : k.fault ≡ None) (octets : List ℕ) (frame : IpFrame) (now : ℕ) (is : datagram_in octets ≡ Some frame) (over : is_over k.channel now ≡ false) where
   -- an acknowledgement, of which nothing else is known
   sends_ack : (told : ChannelTook) (counted next : Known) (t : Frame k r f right calm octets frame now is over told) (cs : IsCounted k counted (after_took k.channel frame now told) (x k r f right calm octets frame now is over ∷ r)) (ack : List ℕ)
-      → answer_in told ≡ Some ack → acknowledgement_in told ≡ Some ack → next.channel ≡ counted.channel → IsRight next (x k r f right calm octets frame now is over ∷ r) → Flies next (channel (x k r f right calm octets frame now is over ∷ r)) → next.tries ≡ counted.tries → change_told told ≡ Stays
+      → channel_took k.channel frame now ≡ told → answer_in told ≡ Some ack → acknowledgement_in told ≡ Some ack → next.channel ≡ counted.channel → IsRight next (x k r f right calm octets frame now is over ∷ r) → Flies next (channel (x k r f right calm octets frame now is over ∷ r)) → next.tries ≡ counted.tries → change_told told ≡ Stays
       → Sending next ack Nothing (x k r f right calm octets frame now is over ∷ r)
-  sends_ack told counted next t cs ack a h same good flies tried stays = record {
+  sends_ack told counted next t cs ack q a h same good flies tried stays = record {
     right = good;
+    written = answer_written k.channel frame now told q ack a;
     owes = t.owes ack a;
     may = (t.answers ack a).may;
     renews = t.right ack a;
@@ -52,7 +54,7 @@ module _ (k : Known) (r : List Entry) (f : FitsRecord k r) (right : IsRight k r)
   pub row_again : (ack : List ℕ) → Row k r f right calm octets frame now is over (took.Again ack)
   unfolding after_took
   row_again ack counted q t cs = record {
-    so = sends_ack (took.Again ack) counted counted t cs ack refl refl refl (calm_right k r f right calm octets frame now is over (took.Again ack) counted t cs counted (undropped k r f right calm octets frame now is over (took.Again ack) counted t cs refl) refl refl)
+    so = sends_ack (took.Again ack) counted counted t cs ack q refl refl refl (calm_right k r f right calm octets frame now is over (took.Again ack) counted t cs counted (undropped k r f right calm octets frame now is over (took.Again ack) counted t cs refl) refl refl)
         (flies_same k r f right calm octets frame now is over (took.Again ack) counted t cs counted refl refl refl (λ h. absurd (cc)) (t.acked over) (t.confirms over)) refl refl;
     tells = rw (t.asks_not ack refl) refl;
     got = (record { got = refl; drops = t.drops }, opens_nothing k r f right calm octets frame now is over (took.Again ack) counted t cs (λ h. absurd (cc)));
@@ -71,7 +73,7 @@ module _ (k : Known) (r : List Entry) (f : FitsRecord k r) (right : IsRight k r)
       let did : (deed (channel r) (x k r f right calm octets frame now is over) ≡ Takes cemi) = taken_deed k.tunnel k.put (channel r) (x k r f right calm octets frame now is over) cemi f.counts (took_is cemi ack counted t cs) ∙ rw m refl in
       let stays : is_confirmation_of (last_in (channel r)) (ldata_in cemi) ≡ false = ap (is_confirmation_of (last_in (channel r))) m ∙ unread_confirms (last_in (channel r)) in
       rw m (record {
-        so = sends_ack (took.Cemi cemi ack) counted (drops counted) t cs ack refl refl refl (calm_right k r f right calm octets frame now is over (took.Cemi cemi ack) counted t cs (drops counted) (dropped_up k r f right calm octets frame now is over (took.Cemi cemi ack) counted t cs (rw m refl)) refl refl)
+        so = sends_ack (took.Cemi cemi ack) counted (drops counted) t cs ack q refl refl refl (calm_right k r f right calm octets frame now is over (took.Cemi cemi ack) counted t cs (drops counted) (dropped_up k r f right calm octets frame now is over (took.Cemi cemi ack) counted t cs (rw m refl)) refl refl)
             (flies_same k r f right calm octets frame now is over (took.Cemi cemi ack) counted t cs (drops counted) refl refl refl (λ h. absurd (cc)) (t.acked over) (t.confirms over ∙ rw stays refl)) refl refl;
         tells = rw (t.asks_not ack refl) refl;
         got = (record { got = refl; drops = t.drops ∙ rw m refl }, opens_nothing k r f right calm octets frame now is over (took.Cemi cemi ack) counted t cs (λ h. absurd (cc)));
@@ -84,7 +86,7 @@ module _ (k : Known) (r : List Entry) (f : FitsRecord k r) (right : IsRight k r)
       let did : (deed (channel r) (x k r f right calm octets frame now is over) ≡ Takes cemi) = taken_deed k.tunnel k.put (channel r) (x k r f right calm octets frame now is over) cemi f.counts (took_is cemi ack counted t cs) ∙ rw (m, own, c) refl in
       let stays : is_confirmation_of (last_in (channel r)) (ldata_in cemi) ≡ false = ap (is_confirmation_of (last_in (channel r))) m ∙ other_confirms (last_in (channel r)) ldata c in
       rw (m, c, own) (record {
-        so = sends_ack (took.Cemi cemi ack) counted counted t cs ack refl refl refl (calm_right k r f right calm octets frame now is over (took.Cemi cemi ack) counted t cs counted (undropped k r f right calm octets frame now is over (took.Cemi cemi ack) counted t cs (rw m refl)) refl refl)
+        so = sends_ack (took.Cemi cemi ack) counted counted t cs ack q refl refl refl (calm_right k r f right calm octets frame now is over (took.Cemi cemi ack) counted t cs counted (undropped k r f right calm octets frame now is over (took.Cemi cemi ack) counted t cs (rw m refl)) refl refl)
             (flies_same k r f right calm octets frame now is over (took.Cemi cemi ack) counted t cs counted refl refl refl (λ h. absurd (cc)) (t.acked over) (t.confirms over ∙ rw stays refl)) refl refl;
         tells = rw (t.asks_not ack refl) refl;
         got = (record { got = refl; drops = t.drops ∙ rw m refl }, opens_nothing k r f right calm octets frame now is over (took.Cemi cemi ack) counted t cs (λ h. absurd (cc)), record { octets = cemi; taken = did; reads = m });
@@ -95,7 +97,7 @@ module _ (k : Known) (r : List Entry) (f : FitsRecord k r) (right : IsRight k r)
       let did : (deed (channel r) (x k r f right calm octets frame now is over) ≡ Nothing) = taken_deed k.tunnel k.put (channel r) (x k r f right calm octets frame now is over) cemi f.counts (took_is cemi ack counted t cs) ∙ rw (m, own) refl in
       let stays : is_confirmation_of (last_in (channel r)) (ldata_in cemi) ≡ false = ap (is_confirmation_of (last_in (channel r))) m ∙ other_confirms (last_in (channel r)) ldata c in
       rw (m, c, own) (record {
-        so = sends_ack (took.Cemi cemi ack) counted counted t cs ack refl refl refl (calm_right k r f right calm octets frame now is over (took.Cemi cemi ack) counted t cs counted (undropped k r f right calm octets frame now is over (took.Cemi cemi ack) counted t cs (rw m refl)) refl refl)
+        so = sends_ack (took.Cemi cemi ack) counted counted t cs ack q refl refl refl (calm_right k r f right calm octets frame now is over (took.Cemi cemi ack) counted t cs counted (undropped k r f right calm octets frame now is over (took.Cemi cemi ack) counted t cs (rw m refl)) refl refl)
             (flies_same k r f right calm octets frame now is over (took.Cemi cemi ack) counted t cs counted refl refl refl (λ h. absurd (cc)) (t.acked over) (t.confirms over ∙ rw stays refl)) refl refl;
         tells = rw (t.asks_not ack refl) refl;
         got = (record { got = refl; drops = t.drops ∙ rw m refl }, opens_nothing k r f right calm octets frame now is over (took.Cemi cemi ack) counted t cs (λ h. absurd (cc)));
@@ -112,7 +114,7 @@ module _ (k : Known) (r : List Entry) (f : FitsRecord k r) (right : IsRight k r)
       let next : Known = record counted { flight = record counted.flight { confirmed = true } } in
       let its : is_confirmation_of counted.put (Some ldata) ≡ true = ap (λ o. is_confirmation_of o (Some ldata)) cs.put_is ∙ own in
       rw (m, c, its, own) (record {
-        so = sends_ack (took.Cemi cemi ack) counted (record counted { flight = record counted.flight { confirmed = true } }) t cs ack refl refl refl
+        so = sends_ack (took.Cemi cemi ack) counted (record counted { flight = record counted.flight { confirmed = true } }) t cs ack q refl refl refl
             (calm_right k r f right calm octets frame now is over (took.Cemi cemi ack) counted t cs (record counted { flight = record counted.flight { confirmed = true } }) (undropped k r f right calm octets frame now is over (took.Cemi cemi ack) counted t cs (rw m refl)) refl refl)
             (record {
               acknowledged = rw cs.flight_is (f.acknowledged ∙ sym (t.acked over));
@@ -129,7 +131,7 @@ module _ (k : Known) (r : List Entry) (f : FitsRecord k r) (right : IsRight k r)
       let stays : is_confirmation_of (last_in (channel r)) (ldata_in cemi) ≡ false = ap (is_confirmation_of (last_in (channel r))) m ∙ ap (λ o. is_confirmation_of o (Some ldata)) last ∙ own in
       let its : is_confirmation_of counted.put (Some ldata) ≡ false = ap (λ o. is_confirmation_of o (Some ldata)) cs.put_is ∙ own in
       rw (m, c, its, own) (record {
-        so = sends_ack (took.Cemi cemi ack) counted counted t cs ack refl refl refl (calm_right k r f right calm octets frame now is over (took.Cemi cemi ack) counted t cs counted (undropped k r f right calm octets frame now is over (took.Cemi cemi ack) counted t cs (rw m refl)) refl refl)
+        so = sends_ack (took.Cemi cemi ack) counted counted t cs ack q refl refl refl (calm_right k r f right calm octets frame now is over (took.Cemi cemi ack) counted t cs counted (undropped k r f right calm octets frame now is over (took.Cemi cemi ack) counted t cs (rw m refl)) refl refl)
             (flies_same k r f right calm octets frame now is over (took.Cemi cemi ack) counted t cs counted refl refl refl (λ h. absurd (cc)) (t.acked over) (t.confirms over ∙ rw stays refl)) refl refl;
         tells = rw (t.asks_not ack refl) refl;
         got = (record { got = refl; drops = t.drops ∙ rw m refl }, opens_nothing k r f right calm octets frame now is over (took.Cemi cemi ack) counted t cs (λ h. absurd (cc)));
@@ -193,6 +195,7 @@ module _ (k : Known) (r : List Entry) (f : FitsRecord k r) (right : IsRight k r)
       let s = t.answers answer refl in record {
         so = record {
           right = calm_right k r f right calm octets frame now is over (took.Gone (Some answer)) counted t cs (record counted { flight = none_in_flight }) (undropped k r f right calm octets frame now is over (took.Gone (Some answer)) counted t cs refl) refl refl;
+          written = answer_written k.channel frame now told q answer refl;
           owes = t.owes answer refl;
           may = s.may;
           renews = t.right answer refl;

@@ -1,8 +1,7 @@
--- What the client's end of a tunnel keeps of its link's record, by the record alone: always that it renewed, sent and acknowledged rightly, and told
+-- What the client's end of a tunnel keeps of its link's record, by the record alone: always that it renewed, sent, wrote and acknowledged rightly, and told
 -- the gateway of each loss of the channel, how many datagrams were dropped and how many were got, and that three failed tries are those of the record; and until it has ended that what it
 -- knows is what the record says.
-use Rattle.std.specs.Prelude.{◌≡◌, ℕ, ◌<◌, ◌^◌, ◌-◌, min, Bool, true, false, ◌&&◌, is_none, List, [], ◌∷◌, length, reverse, Option, Some, None}
-use Rattle.knx_model.specs.Outside.{Rose}
+use Rattle.std.specs.Prelude.{◌≡◌, ℕ, ◌<◌, ◌^◌, ◌-◌, min, Bool, true, false, ◌&&◌, is_none, List, [], ◌∷◌, length, reverse, Option, Some, None, Result, Ok, Err}
 use Rattle.knx_model.specs.declared.address.IndAddr.{IndAddr}
 use Rattle.knx_model.specs.declared.frames.cemi.Ldata.{Ldata}
 use Rattle.line_model.specs.declared.fault.HubFault.{HubFault}
@@ -10,13 +9,15 @@ use Rattle.line_model.specs.declared.fault.HubFault.TheVariants.{NoMemory, LinkF
 use Rattle.line_model.specs.declared.fault.Try.{Try}
 use Rattle.line_model.specs.declared.outside.link.LinkFault.{LinkFault}
 use Rattle.line_model.specs.declared.outside.link.LinkFault.TheVariants as link
-use Rattle.line_model.specs.declared.outside.link_counts.LinkCounts.{LinkCounts}
+use Rattle.line_model.specs.declared.outside.fault_counts.FaultCounts.{FaultCounts}
 use Rattle.line_model.specs.Record.{Entry, Placed, entries}
 use Rattle.line_model.specs.LinkStory.{Story, places_in, newest_time}
+use Rattle.line_model.specs.Polled.{after_fault}
 use Rattle.line_model.specs.ClientView as seen
 use Rattle.line_model.specs.ClientView.{ClientChannel, channel, own_address}
 use Rattle.line_model.specs.Renews.{RenewsRightly, AcknowledgesRightly, has_renewed, owed}
 use Rattle.line_model.specs.Sendings.{SendsRightly}
+use Rattle.line_model.specs.Written.{AllWritten}
 use Rattle.line_model.specs.Leaves.{PartsRightly, parting_of}
 use Rattle.line_model.specs.Dropped as drop
 use Rattle.line_model.specs.Faults.{tries, datagrams_taken}
@@ -87,13 +88,10 @@ abbrev pub fault_by : LinkFault → HubFault
 fault_by (link.NoMemory want) = NoMemory want
 fault_by link.Failed = LinkFailed
 
--- that the link failed, or had no memory, is told only where its count of that rose
-abbrev pub FailsWhere : HubFault → LinkCounts → LinkCounts → Type 0
-FailsWhere (NoMemory want) old new = Rose old.wanting new.wanting
-FailsWhere LinkFailed old new = Rose old.failed new.failed
-FailsWhere (GatewayRefused three) old new = Unit {0}
-FailsWhere Flooded old new = Unit {0}
-FailsWhere (WrongLine device tunnel) old new = Unit {0}
+-- the counts of the link after a call that answered so: a fault of the link is its own, and there is no other
+abbrev pub after_result : {X : Type 0} → Result X HubFault → FaultCounts → FaultCounts
+after_result (Ok x) counts = counts
+after_result (Err why) counts = after_fault (Some why) counts
 
 -- the end of the channel is that of the record, which shows no loss and no failed try of which it isn't told
 abbrev pub FitsNow : ClientEnd → ClientChannel → Type 0
@@ -117,6 +115,7 @@ CountsBy tunnel put (seen.Lost c) = Unit {0}
 pub record IsRight (k : Known) (r : List Entry) : Type 0 where
   pub renews : RenewsRightly r
   pub sends : SendsRightly r
+  pub writes : AllWritten r
   pub acknowledges : AcknowledgesRightly r
   pub parts : PartsRightly r
   pub drops : k.dropped ≡ at_most_64_bits (drop.dropped r)

@@ -1,10 +1,9 @@
 //! What is done on the link, each call with what the client knows then.
 
-ghost use Rattle.std.specs.Prelude.{◌≡◌, ◌≤◌, IfErr, OnOk, Some, None};
+ghost use Rattle.std.specs.Prelude.{◌≡◌, ◌≤◌, Some, None};
 ghost use Rattle.line_model.specs.ClientEnd.{MayConnect};
-ghost use Rattle.line_model.specs.Polled.{NeverFall};
 ghost use Rattle.tunnel_link.specs.Calls.{SendsSo, ConnectsSo, PollsSo, AnswersSo, ListensSo};
-ghost use Rattle.tunnel_link.specs.Rights.{FailsWhere, IsOfTries};
+ghost use Rattle.tunnel_link.specs.Rights.{IsOfTries, after_result};
 
 use crate::came::{Answer, Came, What};
 use crate::known::Known;
@@ -18,10 +17,9 @@ const LONGEST: usize = 512;
 pub fn sent<L: Link>(link: &mut L, known: &mut Known, datagram: &Datagram) -> Result<(), HubFault>
     ensures so { SendsSo result datagram.now known.old known.new (L.story link.old) (L.story link.new) }
     ensures time { L.clock link.old ≤ L.clock link.new }
-    ensures count { NeverFall (L.faults link.old) (L.faults link.new) }
     ensures events { L.place link.old ≤ L.place link.new }
     ensures script { L.script link.new ≡ L.script link.old }
-    ensures cause { IfErr result (λ fault. FailsWhere fault (L.faults link.old) (L.faults link.new)) }
+    ensures counts { L.faults link.new ≡ after_result result (L.faults link.old) }
 {
     match link.send(datagram.as_slice()) {
         Ok(()) => Ok(()),
@@ -34,10 +32,9 @@ pub fn connected<L: Link>(link: &mut L, known: &mut Known) -> Result<(), HubFaul
     requires { MayConnect known.old.channel }
     ensures so { ConnectsSo result known.old known.new (L.story link.old) (L.story link.new) }
     ensures time { L.clock link.old ≤ L.clock link.new }
-    ensures count { NeverFall (L.faults link.old) (L.faults link.new) }
     ensures events { L.place link.old ≤ L.place link.new }
     ensures script { L.script link.new ≡ L.script link.old }
-    ensures cause { IfErr result (λ fault. FailsWhere fault (L.faults link.old) (L.faults link.new)) }
+    ensures counts { L.faults link.new ≡ after_result result (L.faults link.old) }
 {
     if let Err(fault) = link.renew() {
         return Err(known.failed(fault));
@@ -51,10 +48,9 @@ pub fn connected<L: Link>(link: &mut L, known: &mut Known) -> Result<(), HubFaul
 pub fn polled<L: Link>(link: &mut L, known: &mut Known, wait_ms: u32) -> Result<Answer, HubFault>
     ensures so { PollsSo result wait_ms known.old known.new (L.story link.old) (L.story link.new) }
     ensures time { L.clock link.old ≤ L.clock link.new }
-    ensures count { NeverFall (L.faults link.old) (L.faults link.new) }
     ensures events { L.place link.old ≤ L.place link.new }
     ensures script { L.script link.new ≡ L.script link.old }
-    ensures cause { IfErr result (λ fault. FailsWhere fault (L.faults link.old) (L.faults link.new)) }
+    ensures counts { L.faults link.new ≡ after_result result (L.faults link.old) }
 {
     let mut into = [0; LONGEST];
     match link.poll(&mut into, wait_ms) {
@@ -78,10 +74,9 @@ pub fn answered<L: Link>(
 ) -> Result<(), HubFault>
     ensures so { AnswersSo result sends known.old known.new (L.story link.old) (L.story link.new) }
     ensures time { L.clock link.old ≤ L.clock link.new }
-    ensures count { NeverFall (L.faults link.old) (L.faults link.new) }
     ensures events { L.place link.old ≤ L.place link.new }
     ensures script { L.script link.new ≡ L.script link.old }
-    ensures cause { IsOfTries known.old.fault → IfErr result (λ fault. FailsWhere fault (L.faults link.old) (L.faults link.new)) }
+    ensures counts { IsOfTries known.old.fault → L.faults link.new ≡ after_result result (L.faults link.old) }
 {
     match sends {
         Some(datagram) => {
@@ -96,10 +91,9 @@ pub fn answered<L: Link>(
 pub fn listened<L: Link>(link: &mut L, known: &mut Known, wait_ms: u32) -> Result<Came, HubFault>
     ensures so { ListensSo result wait_ms known.old known.new (L.story link.old) (L.story link.new) }
     ensures time { L.clock link.old ≤ L.clock link.new }
-    ensures count { NeverFall (L.faults link.old) (L.faults link.new) }
     ensures events { L.place link.old ≤ L.place link.new }
     ensures script { L.script link.new ≡ L.script link.old }
-    ensures cause { known.old.fault ≡ None → IfErr result (λ fault. FailsWhere fault (L.faults link.old) (L.faults link.new)) }
+    ensures counts { known.old.fault ≡ None → L.faults link.new ≡ after_result result (L.faults link.old) }
 {
     let Answer { what, loss, sends } = polled(link, known, wait_ms)?;
     let sent = sends.is_some();

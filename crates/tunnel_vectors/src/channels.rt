@@ -1,7 +1,7 @@
 //! The client's end of a tunnel, call by call (ISO 22510, Core and Tunnelling). The channel has the number 7.
 
-ghost use Rattle.std.specs.Prelude.{◌≡◌, ◌≤◌, true, is_some};
-ghost use Rattle.line_model.specs.ClientEnd.{open_end};
+ghost use Rattle.std.specs.Prelude.{◌≤◌};
+ghost use Rattle.line_model.specs.ClientEnd.{IsCemi};
 ghost use Rattle.line_model.specs.ClientFrames.{HasTunnelIfUp};
 
 use knx_model::{Datagram, IndAddr, IpFrame};
@@ -13,7 +13,7 @@ mod waits;
 const TUNNEL: IndAddr = IndAddr { raw: 0x11FF };
 
 /// An L_Data.req with a T_Connect.
-const CEMI: [u8; 10] = [0x11, 0x00, 0xB0, 0x60, 0x00, 0x00, 0x11, 0x05, 0x00, 0x80];
+const CEMI: [u8; 10] = [0x11, 0x00, 0xBC, 0x60, 0x00, 0x00, 0x11, 0x05, 0x00, 0x80];
 
 /// A frame of the gateway.
 #[derive(Clone, Copy, Debug)]
@@ -81,10 +81,17 @@ fn again(number: u8) -> ChannelTook {
     ChannelTook::Again { ack: ack(number) }
 }
 
+/// What a request can carry.
+fn connecting() -> [u8; 10]
+    ensures { IsCemi result }
+{
+    CEMI
+}
+
 /// The request with this number.
 fn request(number: u8) -> Datagram {
     octets([
-        0x06, 0x10, 0x04, 0x20, 0x00, 0x14, 0x04, 0x07, number, 0x00, 0x11, 0x00, 0xB0, 0x60, 0x00,
+        0x06, 0x10, 0x04, 0x20, 0x00, 0x14, 0x04, 0x07, number, 0x00, 0x11, 0x00, 0xBC, 0x60, 0x00,
         0x00, 0x11, 0x05, 0x00, 0x80,
     ])
 }
@@ -148,7 +155,7 @@ fn channel(at: At) -> Channel {
     };
     match at {
         At::Asking => {
-            let _ = channel.put(&CEMI, 0);
+            let _ = channel.put(&connecting(), 0);
         }
         At::Beating => {
             let _ = channel.expire(60_000);
@@ -157,7 +164,7 @@ fn channel(at: At) -> Channel {
             let _ = channel.leave();
         }
         At::Lost => {
-            let _ = channel.put(&CEMI, 0);
+            let _ = channel.put(&connecting(), 0);
             let _ = channel.expire(1_000);
             let _ = channel.expire(2_000);
         }

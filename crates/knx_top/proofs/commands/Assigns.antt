@@ -1,12 +1,15 @@
 -- `assign`: what it comes to, and what is written of it.
-use Rattle.std.proofs.Common.{◌≡◌, ◌≢◌, ℕ, ◌<◌, ◌≤◌, arith, ◌∙◌, ap, true, ◌⊎◌, Option, None, Some, List, [], ◌∷◌, Result, Ok, Err, refl, sym, subst, inl, inr}
-use Rattle.std.specs.Prelude.{IfErr, IfOk, map}
-use Rattle.address_talk.specs.Ends.{EndsSo, FailsBy, Leaves}
+use Rattle.std.proofs.Common.{◌≡◌, ◌≢◌, ℕ, ◌∙◌, ap, true, ◌⊎◌, Option, None, Some, List, [], ◌∷◌, Result, Ok, Err, refl, sym, subst, inl, inr}
+use Rattle.std.specs.Prelude.{map}
+use Rattle.address_talk.specs.Ends.{EndsSo, after_assign_fault}
+use Rattle.address_talk.specs.declared.assigned.AssignFault.{AssignFault}
+use Rattle.address_talk.specs.declared.assigned.AssignFault.TheVariants as fault
 use Rattle.address_law.specs.Calm.{AreCalm}
 use Rattle.address_law.specs.Determined.{IsDetermined}
 use Rattle.address_commission.specs.Always.{KeepsChannel}
+use Rattle.address_commission.specs.Counted.{CountsEnd}
 use Rattle.address_commission.specs.Exact.{WhereClock}
-use Rattle.address_sim.specs.Driven.{BusNow, FailsAtEnd, RunsOut}
+use Rattle.address_sim.specs.Driven.{BusNow, FailsAtEnd}
 use Rattle.address_sim.specs.Follows.{FollowsText}
 use Rattle.address_sim.specs.Stays.{lines_of}
 use Rattle.address_sim.specs.Told.{Begun, RunNow, at_rest, start, start_of, story, told as told_of, units_now}
@@ -23,18 +26,18 @@ use Rattle.call_words.specs.declared.input_file.InputFile.TheVariants as file
 use Rattle.call_words.specs.declared.stop.Stop.{Stop}
 use Rattle.call_words.specs.declared.stop.Stop.TheVariants as stop
 use Rattle.knx_model.specs.declared.address.IndAddr.{IndAddr}
-use Rattle.knx_model.specs.Outside.{FilesNow, Rose, greatest_count, one_more}
-use Rattle.line_model.specs.Dialled.{Address, DialerNow, Tells}
+use Rattle.knx_model.specs.Outside.{FilesNow, one_more}
+use Rattle.line_model.specs.Dialled.{Address, DialerNow, Tells, with_link}
 use Rattle.line_model.specs.LinkStory.{Story}
-use Rattle.line_model.specs.Polled.{none_failed}
+use Rattle.line_model.specs.Polled.{none_failed, one_failed}
 use Rattle.line_model.specs.Record.{entries}
-use Rattle.line_model.specs.declared.outside.link_counts.LinkCounts.{LinkCounts}
+use Rattle.line_model.specs.declared.outside.fault_counts.FaultCounts.{FaultCounts}
 use Rattle.tunnel_link.specs.Rights.{WhereTold}
 use Rattle.call_parts.specs.Ending.{Is, StopsFor, report_in, wanting}
 use Rattle.call_parts.specs.Input.{IsRead, OnlyRose, failed, fault_in, first_some, octets_of}
 use Rattle.call_parts.specs.Judged.{read_of, unless_refused}
 use Rattle.call_parts.specs.Stops.{text_refused}
-use Rattle.knx_top.specs.commands.Assign.{AssignSimWords, AssignWords, BeginsAs, Gives, GivesDialled, GivesOnBus, GivesOr, GivesOver, GivesSim, Outcome, OverLink, RunsAssign, RunsAssignSim, TellsOutcome, Units, assign_sim_tests, begun_by, judged_units, units_told}
+use Rattle.knx_top.specs.commands.Assign.{AssignSimWords, AssignWords, BeginsAs, Gives, GivesDialled, GivesOnBus, GivesOr, GivesOver, GivesSim, Outcome, RunsAssign, RunsAssignSim, TellsOutcome, Units, assign_sim_tests, begun_by, judged_units, units_told}
 use Rattle.call_parts.specs.declared.ending.End.{End}
 use Rattle.call_parts.specs.declared.ending.End.TheVariants as ends
 use Rattle.call_parts.specs.declared.given.AssignEnd.{AssignEnd}
@@ -155,25 +158,30 @@ pub units_give : (words : AssignSimWords) (reading : Reading) (before after : Bu
     → first_some (assign_sim_tests words reading) ≡ None → GivesSim words.wanted (units_told reading) before after end
 units_give words reading before after end h = does_by (after ≡ before) (λ text. GivesSim words.wanted text before after) (assign_sim_tests words reading) (units_told reading) _ end (judged_so words reading) h
 
--- ---- what was given, by what the link told
-
-pub over_of : (wanted : IndAddr) (came : Outcome) (before faults : LinkCounts) (link : Story) → before ≡ none_failed → WhereClock (EndsSo wanted came) link → WhereTold KeepsChannel link
-    → WhereTold (λ places. PutsOnly wanted (entries places)) link → IfOk came (λ assigned. ¬ Rose before.failed faults.failed → WhereClock (Leaves wanted assigned) link) → IfErr came (λ fault. FailsBy fault before faults) → GivesOver wanted came faults link
-over_of wanted came before faults link none ended channel puts leaves cause = record {
-  ends = ended;
-  channel = channel;
-  puts = puts;
-  leaves = subst (λ (n : LinkCounts). IfOk came (λ assigned. ¬ Rose n.failed faults.failed → WhereClock (Leaves wanted assigned) link)) none leaves;
-  cause = subst (λ (n : LinkCounts). IfErr came (λ fault. FailsBy fault n faults)) none cause;
-}
-
 -- ---- over a dialled link
 
-pub given_dialled : (words : AssignWords) (before after : DialerNow) (since wanting dials : ℕ) (given : Option Address) (end : AssignEnd) → before.faults ≤ since → Tells words.at.host words.at.port given → dials ≡ one_more before.dials → after.given ≡ given → after.dials ≡ dials → wanting ≡ before.wanting
-    → TellsOutcome words.wanted [] (OverLink words.wanted since wanting after) end → TellsOutcome words.wanted [] (GivesDialled words before after) end
-given_dialled words before after since wanting dials given end count tells once same still stands h = (
+-- the dialer's counts take in those of a link of which no call had failed before
+taken : (why : AssignFault) (counts : FaultCounts) → with_link (after_assign_fault why none_failed) counts ≡ after_assign_fault why counts
+taken fault.TunnelLost counts = refl
+taken fault.LinkFailed counts = refl
+taken (fault.GatewayRefused tries) counts = refl
+taken fault.Flooded counts = refl
+taken (fault.NoMemory want) counts = refl
+
+pub taken_back : (wanted : IndAddr) (came : Outcome) (begun faults before after : FaultCounts) (link : Story) → begun ≡ none_failed → after ≡ with_link faults before → CountsEnd wanted came begun faults link → CountsEnd wanted came before after link
+taken_back wanted (Ok assigned) begun faults before after link none takes (inl left) = inl (takes ∙ ap (λ (n : FaultCounts). with_link n before) (left.0 ∙ none), left.1)
+taken_back wanted (Ok assigned) begun faults before after link none takes (inr failed) = inr (takes ∙ ap (λ (n : FaultCounts). with_link n before) (failed ∙ ap one_failed none))
+taken_back wanted (Err why) begun faults before after link none takes counts = takes ∙ ap (λ (n : FaultCounts). with_link n before) (counts ∙ ap (after_assign_fault why) none) ∙ taken why before
+
+pub given_dialled : (words : AssignWords) (before after : DialerNow) (dialled : FaultCounts) (dials : ℕ) (given : Option Address) (end : AssignEnd) → dialled ≡ before.counts → Tells words.at.host words.at.port given → dials ≡ one_more before.dials → after.given ≡ given → after.dials ≡ dials
+    → TellsOutcome words.wanted [] (λ came. GivesOver words.wanted came dialled after.counts after.link_back) end → TellsOutcome words.wanted [] (GivesDialled words before after) end
+given_dialled words before after dialled dials given end none tells once same still h = (
   h.0,
-  record { given = subst (Tells words.at.host words.at.port) (sym same) tells; once = still ∙ once; since = since; count = count; link = subst (λ (n : ℕ). OverLink words.wanted since n after h.0) stands h.1 },
+  record {
+    given = subst (Tells words.at.host words.at.port) (sym same) tells;
+    once = still ∙ once;
+    over = subst (λ (n : FaultCounts). GivesOver words.wanted h.0 n after.counts after.link_back) none h.1;
+  },
   h.2,
 )
 
@@ -207,24 +215,15 @@ determined_on wanted text after came determine buses begun follows nothing =
     subst (λ (units : List BusUnit). IsDetermined wanted units (units_now after.run) came) (ap (λ (z : Begun). map shown (start_of z).units) begun ∙ shown_rest text.0)
     (determine (start after.run) after.run.events refl (buses text.1 (start after.run) after.run.events follows nothing))
 
--- a count that rose, of calls that fail only at the end
-failed_last : (before after : ℕ) (run : RunNow) → before ≡ 0 → Rose before after → FailsAtEnd after run → RunsOut run
-failed_last before after run none rose (inr out) = out
-failed_last before after run none (inl more) (inl still) = absurd (none_more before after still more) where
-  none_more : (a b : ℕ) → b ≡ 0 → a < b → ⊥
-  none_more a b e lt = omega (arith, e, lt)
-failed_last before after run none (inr most) (inl still) = absurd (not_most after most still) where
-  not_most : (n : ℕ) → n ≡ greatest_count → n ≡ 0 → ⊥
-  not_most n most none = omega (arith, most, none)
-
 pub given_sim : (wanted : IndAddr) (text : Units) (bus after : BusNow) (came : Outcome) → BeginsAs wanted (Ok text) bus → ((one other : Begun) → lines_of one ≡ lines_of other → one ≡ other) → QuietBuses → QuietTexts → lines_of after.run.begun ≡ lines_of bus.run.begun
     → IsFresh (start after.run) → IsLegal (start after.run) after.run.events → FollowsText after.run.begun.losses (start after.run) after.run.events
     → ((from : AddressWorld) (events : List AddressEvent) → told_of after.run ≡ Told from events → AlwaysKeepsUnits wanted from events) → UnitsDetermine wanted after came → bus.faults ≡ none_failed
     → FailsAtEnd after.faults.failed after.run → WhereClock (EndsSo wanted came) (story after.run) → WhereTold KeepsChannel (story after.run) → WhereTold (λ places. PutsOnly wanted (entries places)) (story after.run)
-    → IfOk came (λ assigned. ¬ Rose bus.faults.failed after.faults.failed → WhereClock (Leaves wanted assigned) (story after.run)) → IfErr came (λ fault. FailsBy fault bus.faults after.faults) → GivesOnBus wanted text after came
-given_sim wanted text bus after came b law buses texts same fresh legal follows units determine none faults ended channel puts leaves cause =
+    → CountsEnd wanted came bus.faults after.faults (story after.run) → GivesOnBus wanted text after came
+given_sim wanted text bus after came b law buses texts same fresh legal follows units determine none faults ended channel puts counts =
     let begun : after.run.begun ≡ begun_by wanted text = law after.run.begun bus.run.begun same ∙ run_begun wanted text bus b in
     let follows_it : FollowsText text.1 (start after.run) after.run.events = subst (λ (losses : List UnitLoss). FollowsText losses (start after.run) after.run.events) (ap (λ (z : Begun). z.losses) begun) follows in
+    let counts_new : CountsEnd wanted came none_failed after.faults (story after.run) = subst (λ (n : FaultCounts). CountsEnd wanted came n after.faults (story after.run)) none counts in
     record {
       begun = begun;
       fresh = fresh;
@@ -233,8 +232,8 @@ given_sim wanted text bus after came b law buses texts same fresh legal follows 
       units = units (start after.run) after.run.events refl;
       nothing_lost = lost_nothing text after texts follows_it;
       determined = determined_on wanted text after came determine buses begun follows_it;
-      over = over_of wanted came bus.faults after.faults (story after.run) none ended channel puts leaves cause;
-      last = λ failed. failed_last bus.faults.failed after.faults.failed after.run (ap (λ (n : LinkCounts). n.failed) none) (subst (λ (o : Outcome). IfErr o (λ fault. FailsBy fault bus.faults after.faults)) failed cause) faults;
+      over = record { ends = ended; channel = channel; puts = puts; counts = counts_new };
+      last = faults;
     }
 
 -- what was judged has begun a bus on which nothing was done

@@ -14,6 +14,7 @@ use Rattle.knx_model.specs.Meaning.{Installation}
 use Rattle.call_parts.specs.Ending.{Is, StopsFor, report_in, wanting, untold}
 use Rattle.knx_model.specs.declared.catalogue.model.NamedModel.{NamedModel}
 use Rattle.line_model.specs.PortStory.{PortStory}
+use Rattle.line_model.specs.declared.outside.fault_counts.FaultCounts.{FaultCounts}
 use Rattle.knx_model.specs.declared.script.ScriptLine.{ScriptLine}
 use Rattle.call_parts.specs.declared.ending.ServiceEnd.{ServiceEnd}
 use Rattle.call_words.specs.declared.stop.Stop.{Stop}
@@ -142,9 +143,9 @@ begins_no_run (Ok s) before after line line' end h = serving_is_no_run s before 
 
 -- ---- what is written of it
 
-untold_so : (s : Service) (line : BusNow) (port : PortStory) (since after : ℕ) (end : ServiceEnd) → Serving s line port since after end → Serving s line port since after (untold end)
-untold_so s line port since after over.Ended h = h
-untold_so s line port since after (over.OpenTurns turns) h = record {
+untold_so : (s : Service) (line : BusNow) (port : PortStory) (before after : FaultCounts) (end : ServiceEnd) → Serving s line port before after end → Serving s line port before after (untold end)
+untold_so s line port before after over.Ended h = h
+untold_so s line port before after (over.OpenTurns turns) h = record {
   run = h.run;
   began = h.began;
   begins = h.begins;
@@ -154,12 +155,10 @@ untold_so s line port since after (over.OpenTurns turns) h = record {
   broke = λ why e. tt;
   answered = h.answered;
   serves = inr h.serves.1;
-  faults = h.faults;
-  taken = h.taken;
-  cause = h.cause;
+  counts = h.counts;
 }
-untold_so s line port since after over.Failed h = h
-untold_so s line port since after (over.Unserved want) h = h
+untold_so s line port before after over.Failed h = h
+untold_so s line port before after (over.Unserved want) h = h
 
 serves_wants : (s : Service) (before after : DialerNow) (line line' : BusNow) (end : End) → Serves s before after line line' end → Serves s before after line line' (wanting end)
 serves_wants s before after line line' (ends.Stops told) h = (refl, h.1, h.2)
@@ -168,7 +167,7 @@ serves_wants s before after line line' ends.NotOpened h = h
 serves_wants s before after line line' (ends.BreaksOff report want) h = absurd h
 serves_wants s before after line line' (ends.Reports told) h = absurd h
 serves_wants s before after line line' (ends.Sums told counts) h = absurd h
-serves_wants s before after line line' (ends.Serves served) h = record { given = h.given; once = h.once; since = h.since; count = h.count; serving = untold_so s line' after.port_back h.since after.faults served h.serving }
+serves_wants s before after line line' (ends.Serves served) h = record { given = h.given; once = h.once; serving = untold_so s line' after.port_back before.counts after.counts served h.serving }
 serves_wants s before after line line' (ends.Finds searched) h = absurd h
 serves_wants s before after line line' (ends.Assigns given) h = absurd h
 

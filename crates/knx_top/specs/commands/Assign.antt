@@ -2,16 +2,16 @@
 -- where that fails, a link fault is told, and nothing else; else the address is given over the link that was dialled, which is handed back. The second reads
 -- UNITS, tells the first test that fails, and else begins the simulated bus anew with the units and the losses of the text, behind a tunnel on the line of
 -- the address, and gives it there.
-use Rattle.std.specs.Prelude.{ℕ, ◌≡◌, ◌≤◌, ◌+◌, ◌*◌, ◌/◌, List, [], ◌∷◌, Option, Some, None, Result, Ok, Err, IfErr, IfOk, true, option_and_then}
+use Rattle.std.specs.Prelude.{ℕ, ◌≡◌, ◌+◌, ◌*◌, ◌/◌, List, [], ◌∷◌, Option, Some, None, Result, Ok, Err, true, option_and_then}
 use Rattle.std.specs.Option.{option_map}
 use Rattle.address_talk.specs.declared.assigned.Assigned.{Assigned}
 use Rattle.address_talk.specs.declared.assigned.AssignFault.{AssignFault}
-use Rattle.address_talk.specs.declared.assigned.AssignFault.TheVariants.{LinkFailed}
-use Rattle.address_talk.specs.Ends.{EndsSo, FailsBy, Leaves}
+use Rattle.address_talk.specs.Ends.{EndsSo}
 use Rattle.address_law.specs.Determined.{IsDetermined}
 use Rattle.address_commission.specs.Always.{KeepsChannel}
+use Rattle.address_commission.specs.Counted.{CountsEnd}
 use Rattle.address_commission.specs.Exact.{WhereClock}
-use Rattle.address_sim.specs.Driven.{BusNow, RunsOut}
+use Rattle.address_sim.specs.Driven.{BusNow, FailsAtEnd}
 use Rattle.address_sim.specs.Follows.{FollowsText}
 use Rattle.address_sim.specs.Told.{Begun, start, story, units_now}
 use Rattle.address_sim.specs.Undisturbed.{NothingLost}
@@ -26,14 +26,13 @@ use Rattle.call_words.specs.declared.stop.Stop.TheVariants as stop
 use Rattle.knx_model.specs.Addresses.{ind_value}
 use Rattle.knx_model.specs.Answers.{◌>>=◌}
 use Rattle.knx_model.specs.declared.address.IndAddr.{IndAddr}
-use Rattle.knx_model.specs.Outside.{FilesNow, Rose, one_more}
-use Rattle.line_model.specs.Dialled.{Address, DialerNow, TakesBack, Tells}
+use Rattle.knx_model.specs.Outside.{FilesNow, one_more}
+use Rattle.line_model.specs.Dialled.{Address, DialerNow, FailsToOpen, Tells}
 use Rattle.line_model.specs.LinkStory.{Story}
 use Rattle.line_model.specs.Polled.{none_failed}
 use Rattle.line_model.specs.Record.{entries}
-use Rattle.line_model.specs.declared.outside.link_counts.LinkCounts.{LinkCounts}
+use Rattle.line_model.specs.declared.outside.fault_counts.FaultCounts.{FaultCounts}
 use Rattle.tunnel_link.specs.Rights.{WhereTold}
-use Rattle.knx_top.specs.Dialled.{FailsToOpen}
 use Rattle.call_parts.specs.Ending.{StopsFor}
 use Rattle.call_parts.specs.Given.{EndsAs}
 use Rattle.call_parts.specs.Host.{address_value}
@@ -71,15 +70,14 @@ abbrev pub Outcome : Type 0
 Outcome = Result Assigned AssignFault
 
 -- By what the link told last, whatever its clock: an answer and a fault are told exactly at their cause, the channel is kept as it should be, and behind an
--- answer it is asked to end, once, unless a call of the link failed. Where the clock is exact the pace is kept too. A fault of the link, or its want of
--- memory, is told only where its count of that rose, which was 0.
-pub record GivesOver (wanted : IndAddr) (came : Outcome) (faults : LinkCounts) (last : Story) : Type 0 where
+-- answer it is asked to end, once, unless a call of the link failed there. Where the clock is exact the pace is kept too. A fault of the link, or its want of
+-- memory, is told exactly where one call of it failed so: these were the counts before it, and after it.
+pub record GivesOver (wanted : IndAddr) (came : Outcome) (before after : FaultCounts) (last : Story) : Type 0 where
   pub ends : WhereClock (EndsSo wanted came) last
   pub channel : WhereTold KeepsChannel last
   -- no request whose frame reads was sent but broadcast reads of addresses, broadcast writes of the wanted one, T_Connects and T_Disconnects to it
   pub puts : WhereTold (λ places. PutsOnly wanted (entries places)) last
-  pub leaves : IfOk came (λ assigned. ¬ Rose 0 faults.failed → WhereClock (Leaves wanted assigned) last)
-  pub cause : IfErr came (λ fault. FailsBy fault none_failed faults)
+  pub counts : CountsEnd wanted came before after last
 
 -- this came of it, of which P holds; or memory is wanting, to go on or to tell it
 abbrev pub TellsOutcome : IndAddr → List BusUnit → (Outcome → Type 0) → AssignEnd → Type 0
@@ -87,21 +85,11 @@ TellsOutcome wanted units P end = (came : Outcome) × P came × EndsAs wanted un
 
 -- ---- over a dialled link
 
--- The address was given over a link that was dialled, and the link was handed back. The dialer's counts were these once it had dialled, and take those of the
--- link in.
-pub record OverLink (wanted : IndAddr) (failed wanting : ℕ) (after : DialerNow) (came : Outcome) : Type 0 where
-  pub faults : LinkCounts
-  pub taken : TakesBack faults.failed failed after.faults
-  pub lacked : TakesBack faults.wanting wanting after.wanting
-  pub over : GivesOver wanted came faults after.link_back
-
--- the link was dialled by one call of `dial`
+-- the address was given over a link that was dialled by one call of `dial`, and the link was handed back; the dialer counts its calls that failed
 pub record GivesDialled (words : AssignWords) (before after : DialerNow) (came : Outcome) : Type 0 where
   pub given : Tells words.at.host words.at.port after.given
   pub once : after.dials ≡ one_more before.dials
-  pub since : ℕ
-  pub count : before.faults ≤ since
-  pub link : OverLink words.wanted since before.wanting after came
+  pub over : GivesOver words.wanted came before.counts after.counts after.link_back
 
 -- the dial failed; or a link was dialled, and the address given over it. No units are told
 abbrev pub Gives : AssignWords → DialerNow → DialerNow → End → Type 0
@@ -145,8 +133,8 @@ pub record GivesOnBus (wanted : IndAddr) (text : Units) (after : BusNow) (came :
   pub units : AlwaysKeepsUnits wanted (start after.run) after.run.events
   pub nothing_lost : text.1 ≡ [] → NothingLost after.run.events
   pub determined : NothingLost after.run.events → IsDetermined wanted text.0 (units_now after.run) came
-  pub over : GivesOver wanted came after.faults (story after.run)
-  pub last : came ≡ Err LinkFailed → RunsOut after.run
+  pub over : GivesOver wanted came none_failed after.faults (story after.run)
+  pub last : FailsAtEnd after.faults.failed after.run
 
 -- memory is wanting before anything is done; or the address was given on the bus, and its units are told as they now are
 abbrev pub GivesSim : IndAddr → Units → BusNow → BusNow → End → Type 0

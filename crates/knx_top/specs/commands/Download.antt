@@ -1,14 +1,14 @@
 -- `download ADDR NEW` with options and jobs. It reads the catalogue and NEW and tells the first test that fails; nothing is dialled then. Else it dials the
 -- gateway that its words name. Where that fails, a link fault is told, and nothing else. Else it goes through the jobs over the link that was dialled, and
 -- hands the link back.
-use Rattle.std.specs.Prelude.{ℕ, Err, List, None, Ok, Option, Result, Some, option_to_list, ◌≡◌, ◌≤◌, ◌++◌, ◌∷◌, map, length, [], ◌<◌, ◌^◌, option_and_then}
-use Rattle.line_model.specs.Dialled.{Address, DialerNow, Tells}
+use Rattle.std.specs.Prelude.{ℕ, Err, List, None, Ok, Option, Result, Some, option_to_list, ◌≡◌, ◌++◌, ◌∷◌, map, length, [], ◌<◌, ◌^◌, option_and_then}
+use Rattle.line_model.specs.Dialled.{Address, DialerNow, FailsToOpen, Tells}
 use Rattle.std.specs.List.{AllByRecursion, list_all}
 use Rattle.call_parts.specs.Jobs.{AreJobs, ArePlanned, seen_job}
 use Rattle.call_parts.specs.Judged.{ComesTo, known_jobs}
 use Rattle.knx_top.specs.declared.commands.download.DownloadNames.{DownloadNames}
 use Rattle.call_parts.specs.declared.ending.End.{End}
-use Rattle.knx_top.specs.Dialled.{FailsToOpen, HasItsCause, MeansOver}
+use Rattle.knx_top.specs.Dialled.{CountsDialled, MeansOver}
 use Rattle.knx_model.specs.Outside.{FilesNow, one_more}
 use Rattle.line_model.specs.declared.group.GroupTurn.{GroupTurn}
 use Rattle.knx_model.specs.Meaning.{Installation}
@@ -26,7 +26,8 @@ use Rattle.call_parts.specs.Ending.{StopsFor, report_in}
 use Rattle.call_parts.specs.Names.{address_of, options_of}
 use Rattle.call_parts.specs.Host.{address_value}
 use Rattle.call_parts.specs.Stops.{is_known, unless_known}
-use Rattle.knx_top.specs.Ran.{IsToldOver, log_in}
+use Rattle.hub_core.specs.Commissioned.{log_of}
+use Rattle.knx_top.specs.Ran.{IsToldOver}
 use Rattle.call_words.specs.declared.stop.Stop.TheVariants as stop
 use Rattle.call_parts.specs.declared.ending.End.TheVariants as ends
 use Rattle.std.specs.Option.{option_map}
@@ -84,11 +85,8 @@ pub record DialledRun (d : Download) (before after : DialerNow) (report : Report
   pub planned : ArePlanned d.project jobs words
   -- the link was handed back, and this is so of what it told
   pub told : IsToldOver d.workers d.turns jobs after.link_back report
-  pub means : MeansOver d.project jobs after.link_back (log_in report)
-  -- the dialer's count once it had dialled
-  pub since : ℕ
-  pub count : before.faults ≤ since
-  pub cause : HasItsCause report since before.wanting after
+  pub means : MeansOver d.project jobs after.link_back (log_of report)
+  pub counts : CountsDialled report before after
 
 -- memory is wanting before anything is dialled; or the dial failed; or a link was dialled, gone through and handed back, whether the report of that is
 -- written or memory is wanting for it

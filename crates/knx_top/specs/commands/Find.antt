@@ -8,10 +8,9 @@ use Rattle.discovery.specs.declared.about.About.{About}
 use Rattle.discovery.specs.declared.inquiry.Inquiry.{Inquiry}
 use Rattle.discovery.specs.declared.inquiry.Inquiry.TheVariants.{Search, Description}
 use Rattle.discovery_ends.specs.Looking.{LookedOver}
-use Rattle.line_model.specs.Dialled.{Address, DialerNow}
+use Rattle.line_model.specs.Dialled.{Address, DialerNow, FailsToOpen}
 use Rattle.line_model.specs.declared.outside.link.LinkFault.{LinkFault}
 use Rattle.line_model.specs.declared.outside.link.LinkFault.TheVariants as fault
-use Rattle.knx_top.specs.Dialled.{FailsToOpen}
 use Rattle.call_parts.specs.Host.{address_value}
 use Rattle.call_parts.specs.Names.{address_of}
 use Rattle.knx_top.specs.declared.commands.find.FindNames.{FindNames}

@@ -1,17 +1,17 @@
 -- `gateway ADDR OLD SCRIPT turns=N` with its option. It reads the catalogue, OLD and the script and tells the first test that fails; no port is bound then. Else
 -- it binds the port that its words name. Where that fails, a link fault is told, and nothing else. Else it serves the line that OLD and the script say, at that
 -- port, for at most so many turns, and hands the port back: all that is told is told of what that port told last. There it names the endpoint that is bound, and
--- answers by itself who asks who it is. The dialer's count of faults takes in those of the port.
-use Rattle.std.specs.Prelude.{ℕ, Err, List, None, Ok, Option, Result, Some, option_to_list, ◌≡◌, ◌≤◌, ◌⊎◌, ◌++◌, ◌∷◌, codes, true, [], option_and_then}
-use Rattle.line_model.specs.Dialled.{Address, DialerNow, TakesBack, Tells}
+-- answers by itself who asks who it is.
+use Rattle.std.specs.Prelude.{ℕ, Err, List, None, Ok, Option, Result, Some, option_to_list, ◌≡◌, ◌⊎◌, ◌++◌, ◌∷◌, codes, true, [], option_and_then}
+use Rattle.line_model.specs.Dialled.{Address, DialerNow, FailsToOpen, Tells}
 use Rattle.knx_top.specs.Begun.{BeginsLine}
-use Rattle.bus_sim.specs.Serving.{BreaksOff, FailsAt, ServedSo}
+use Rattle.bus_sim.specs.Serving.{BreaksOff, ServedSo}
+use Rattle.bus_sim.specs.Ended.{IsAtEnd}
 use Rattle.bus_sim.specs.Loaded.{BusNow}
-use Rattle.line_model.specs.Polled.{none_failed}
+use Rattle.line_model.specs.Polled.{none_failed, one_failed}
 use Rattle.line_model.specs.StartOf.{BusOf, tunnel_address}
 use Rattle.call_parts.specs.Judged.{ComesTo, models_of, read_of, unless_refused, unless_strange, installed, sound}
 use Rattle.call_parts.specs.declared.ending.End.{End}
-use Rattle.knx_top.specs.Dialled.{FailsToOpen}
 use Rattle.knx_model.specs.Outside.{FileContent, FilesNow, one_more}
 use Rattle.line_model.specs.Follows.{Follows}
 use Rattle.knx_top.specs.declared.commands.gateway.GatewayNames.{GatewayNames}
@@ -26,6 +26,7 @@ use Rattle.line_model.specs.Legal.{IsLegal}
 use Rattle.line_model.specs.PortStory.{IsNewPort, PortStory}
 use Rattle.call_parts.specs.Input.{IsRead, OnlyRose, fault_in, first_some, goes_on, octets_of, failed}
 use Rattle.knx_model.specs.declared.catalogue.model.NamedModel.{NamedModel}
+use Rattle.line_model.specs.declared.outside.fault_counts.FaultCounts.{FaultCounts}
 use Rattle.line_model.specs.declared.outside.port.PortFault.{PortFault}
 use Rattle.call_parts.specs.Fronts.{Row, read_by}
 use Rattle.bus_sim.specs.RunNow.{RunNow, start}
@@ -149,14 +150,15 @@ IsBrokenOff over.Failed = Unit {0}
 IsBrokenOff (over.Unserved want) = Unit {0}
 IsBrokenOff end = ⊥
 
--- Of the counts of failed calls of the port and of the line, which are 0 where it begins: that it failed is told only where the port's rose, or the line's did at
--- the last time of 64 bits, 2^64 - 1 ms after it began. Else no call of the line failed.
-abbrev pub HasCause : ServiceEnd → ℕ → BusNow → Type 0
-HasCause over.Failed port line = FailsAt fault.Failed 0 port 0 line.faults.failed line.run
-HasCause end port line = line.faults.failed ≡ 0
+-- That it failed is told exactly where one call of the port failed, which the dialer counts once the port is back, or one of the line, whose counts are 0 where it
+-- begins, at the last time of 64 bits, 2^64 - 1 ms after it began. No other call failed.
+abbrev pub CountsService : ServiceEnd → FaultCounts → FaultCounts → BusNow → Type 0
+CountsService over.Failed before after line =
+    ((after ≡ one_failed before) × (line.faults ≡ none_failed)) ⊎ ((after ≡ before) × (line.faults ≡ one_failed none_failed) × IsAtEnd line.run)
+CountsService end before after line = (after ≡ before) × (line.faults ≡ none_failed)
 
--- a serving, over whose port's return the dialer's count was `since` and is `after`
-pub record Serving (s : Service) (line : BusNow) (port : PortStory) (since after : ℕ) (end : ServiceEnd) : Type 0 where
+-- a serving, before which the dialer's counts were `before`, and are `after` once the port is back
+pub record Serving (s : Service) (line : BusNow) (port : PortStory) (before after : FaultCounts) (end : ServiceEnd) : Type 0 where
   pub run : IsServed s line.run
   -- the line before the first turn, and the port, which was new
   pub began : RunNow
@@ -169,20 +171,14 @@ pub record Serving (s : Service) (line : BusNow) (port : PortStory) (since after
   -- no request is left: each was answered at once, but for that one
   pub answered : HasNoRequest (line_story s failed port)
   pub serves : ServesTo end s.turns began line.run new_port (line_story s failed port)
-  -- the port's count of failed calls, which the dialer's takes in
-  pub faults : ℕ
-  pub taken : TakesBack faults since after
-  pub cause : HasCause end faults line
+  pub counts : CountsService end before after line
 
 -- a port was bound, the line served there, and the port handed back, where the dialer told `before` and tells `after`
 pub record ServedRun (s : Service) (before after : DialerNow) (line : BusNow) (end : ServiceEnd) : Type 0 where
   -- there was one call of `bind`, with just the host and the port number of the words
   pub given : Tells s.at.host s.at.port after.given
   pub once : after.dials ≡ one_more before.dials
-  -- the dialer's count once the port was bound
-  pub since : ℕ
-  pub count : before.faults ≤ since
-  pub serving : Serving s line after.port_back since after.faults end
+  pub serving : Serving s line after.port_back before.counts after.counts end
 
 -- ---- what comes of it
 

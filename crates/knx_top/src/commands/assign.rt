@@ -1,17 +1,16 @@
 //! `assign ADDR IA` and `assign sim UNITS IA`: the one unit in programming mode gets an individual address, over a dialled link, which is handed back to the
 //! dialer before the call answers, or over the simulated bus of units.
 
-ghost use Rattle.std.specs.Prelude.{◌≡◌, ◌≢◌, ◌≤◌, ◌+◌, ℕ, [], Err, Ok, IfErr, IfOk, List as Seq, length};
+ghost use Rattle.std.specs.Prelude.{◌≡◌, ◌≢◌, ◌≤◌, ◌+◌, ℕ, [], Err, Ok, IfErr, IfOk, List as Seq};
 ghost use Rattle.std.specs.Option.{option_map};
 ghost use Rattle.address_text.specs.UnitText.{unit_reading};
 ghost use Rattle.call_words.specs.declared.input_file.InputFile.TheVariants.{Script as OfScript};
 ghost use Rattle.call_words.specs.declared.stop.Stop.TheVariants.{NoMemory as OutOfMemory};
-ghost use Rattle.line_model.specs.Dialled.{TakesBack};
 ghost use Rattle.line_model.specs.LinkStory.{IsNewLink};
 ghost use Rattle.line_model.specs.Polled.{none_failed};
 ghost use Rattle.call_parts.specs.Ending.{Is};
 ghost use Rattle.call_parts.specs.Judged.{Gives as GivesAs, unless_refused};
-ghost use Rattle.knx_top.specs.commands.Assign.{BeginsAs, GivesOr, GivesSim, OverLink, RunsAssign, RunsAssignSim, TellsOutcome, Units, assign_sim_words, assign_sim_words_of, assign_words, assign_words_of, judged_units, tunnel_beside};
+ghost use Rattle.knx_top.specs.commands.Assign.{BeginsAs, GivesOr, GivesOver, GivesSim, RunsAssign, RunsAssignSim, TellsOutcome, Units, assign_sim_words, assign_sim_words_of, assign_words, assign_words_of, judged_units, tunnel_beside};
 
 use address_commission::{Plain, assign};
 use address_sim::{
@@ -72,7 +71,7 @@ fn give_over<R: Wait, D: Dialer>(
 ) -> AssignEnd
     requires new { IsNewLink (D.L.story link) }
     requires sound { D.L.faults link ≡ none_failed }
-    ensures tells { TellsOutcome wanted [] (OverLink wanted (D.now dial.old).faults (D.now dial.old).wanting (D.now dial.new)) result }
+    ensures tells { TellsOutcome wanted [] (λ came. GivesOver wanted came (D.now dial.old).counts (D.now dial.new).counts (D.now dial.new).link_back) result }
     ensures given { (D.now dial.new).given ≡ (D.now dial.old).given }
     ensures dials { (D.now dial.new).dials ≡ (D.now dial.old).dials }
 {

@@ -9,7 +9,7 @@ ghost use Rattle.line_model.specs.Headline.{IsGoodJob};
 ghost use Rattle.line_model.specs.LinkStory.{IsNewLink};
 ghost use Rattle.line_model.specs.Polled.{none_failed};
 ghost use Rattle.line_model.specs.Watched.{watch_in};
-ghost use Rattle.knx_top.specs.Dialled.{HasItsCause};
+ghost use Rattle.knx_top.specs.Dialled.{CountsDialled};
 ghost use Rattle.knx_top.specs.Ran.{IsToldOver};
 ghost use Rattle.call_parts.specs.Ending.{Is, report_in};
 ghost use Rattle.call_parts.specs.Jobs.{seen_job};
@@ -148,7 +148,7 @@ fn run<R: Threads + Wait + Sync, D: Dialer, G: Gate + Sync, W: Watcher + Send>(
     ensures told { IsToldOver (workers_of (options_of options.now)) [] (map seen_job plans) (D.now dial.new).link_back result }
     ensures given { (D.now dial.new).given ≡ (D.now dial.old).given }
     ensures dials { (D.now dial.new).dials ≡ (D.now dial.old).dials }
-    ensures cause { HasItsCause result (D.now dial.old).faults (D.now dial.old).wanting (D.now dial.new) }
+    ensures counts { CountsDialled result (D.now dial.old) (D.now dial.new) }
     ensures watched { TellsWatcher (map (λ (job : JobOfHub). job.device) plans) options.now.quiet result (watch_in W.watch watch.old) (watch_in W.watch watch.new) }
 {
     let run = Run {

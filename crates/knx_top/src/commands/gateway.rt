@@ -185,7 +185,7 @@ fn serve<D: Dialer>(
     requires new { IsNewPort (D.P.story door) }
     requires unfailed { D.P.faults door ≡ 0 }
     requires sound { ready.line.faults ≡ none_failed }
-    ensures serving { (s : Service) → IsLineOf s ready → s.at ≡ address_of names.entry.at → s.turns ≡ names.entry.turns → Serving s sim.new (D.now dial.new).port_back (D.now dial.old).faults (D.now dial.new).faults result }
+    ensures serving { (s : Service) → IsLineOf s ready → s.at ≡ address_of names.entry.at → s.turns ≡ names.entry.turns → Serving s sim.new (D.now dial.new).port_back (D.now dial.old).counts (D.now dial.new).counts result }
     ensures given { (D.now dial.new).given ≡ (D.now dial.old).given }
     ensures dials { (D.now dial.new).dials ≡ (D.now dial.old).dials }
 {

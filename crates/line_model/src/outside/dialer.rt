@@ -1,8 +1,8 @@
 //! What dials links and binds ports.
 
-ghost use Rattle.std.specs.Prelude.{◌≡◌, ◌≤◌, IfOk, OnErr};
-ghost use Rattle.knx_model.specs.Outside.{Rose, one_more};
-ghost use Rattle.line_model.specs.Dialled.{DialerNow, Tells, TakesBack};
+ghost use Rattle.std.specs.Prelude.{◌≡◌, IfOk};
+ghost use Rattle.knx_model.specs.Outside.{one_more};
+ghost use Rattle.line_model.specs.Dialled.{DialerNow, Tells, after_dial, with_link, with_port};
 ghost use Rattle.line_model.specs.LinkStory.{IsNewLink};
 ghost use Rattle.line_model.specs.Polled.{none_failed};
 ghost use Rattle.line_model.specs.PortStory.{IsNewPort};
@@ -22,16 +22,14 @@ pub trait Dialer {
 
     type P: Port;
 
-    /// What it tells. The counts never fall.
+    /// What it tells.
     ghost now: { Self → DialerNow };
 
     /// Dials a gateway. The link has no events, or an empty record, and no fault.
     fn dial(&mut self, host: [u8; 4], port: u16) -> Result<Self::L, DialFailed>
         ensures fresh { IfOk result (λ l. IsNewLink (Self.L.story l)) }
         ensures sound { IfOk result (λ l. Self.L.faults l ≡ none_failed) }
-        ensures failed { OnErr result (Rose (now self.old).faults (now self.new).faults) }
-        ensures count { (now self.old).faults ≤ (now self.new).faults }
-        ensures wanting { (now self.new).wanting ≡ (now self.old).wanting }
+        ensures counts { (now self.new).counts ≡ after_dial result (now self.old).counts }
         ensures tells { Tells host port (now self.new).given }
         ensures dials { (now self.new).dials ≡ one_more (now self.old).dials }
         ensures link_stays { (now self.new).link_back ≡ (now self.old).link_back }
@@ -41,9 +39,7 @@ pub trait Dialer {
     fn bind(&mut self, host: [u8; 4], port: u16) -> Result<Self::P, DialFailed>
         ensures fresh { IfOk result (λ p. IsNewPort (Self.P.story p)) }
         ensures sound { IfOk result (λ p. Self.P.faults p ≡ 0) }
-        ensures failed { OnErr result (Rose (now self.old).faults (now self.new).faults) }
-        ensures count { (now self.old).faults ≤ (now self.new).faults }
-        ensures wanting { (now self.new).wanting ≡ (now self.old).wanting }
+        ensures counts { (now self.new).counts ≡ after_dial result (now self.old).counts }
         ensures tells { Tells host port (now self.new).given }
         ensures dials { (now self.new).dials ≡ one_more (now self.old).dials }
         ensures link_stays { (now self.new).link_back ≡ (now self.old).link_back }
@@ -51,16 +47,14 @@ pub trait Dialer {
 
     /// Takes a link back. Each count rises exactly where that of the link isn't 0.
     fn hang(&mut self, line: Self::L)
-        ensures count { TakesBack (Self.L.faults line).failed (now self.old).faults (now self.new).faults }
-        ensures wanting { TakesBack (Self.L.faults line).wanting (now self.old).wanting (now self.new).wanting }
+        ensures counts { (now self.new).counts ≡ with_link (Self.L.faults line) (now self.old).counts }
         ensures told { (now self.new).link_back ≡ Self.L.story line }
         ensures given { (now self.new).given ≡ (now self.old).given }
         ensures dials { (now self.new).dials ≡ (now self.old).dials };
 
     /// Takes a port back.
     fn shut(&mut self, door: Self::P)
-        ensures count { TakesBack (Self.P.faults door) (now self.old).faults (now self.new).faults }
-        ensures wanting { (now self.new).wanting ≡ (now self.old).wanting }
+        ensures counts { (now self.new).counts ≡ with_port (Self.P.faults door) (now self.old).counts }
         ensures told { (now self.new).port_back ≡ Self.P.story door }
         ensures given { (now self.new).given ≡ (now self.old).given }
         ensures dials { (now self.new).dials ≡ (now self.old).dials };

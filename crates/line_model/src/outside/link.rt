@@ -2,7 +2,7 @@
 
 ghost use Rattle.std.specs.Prelude.{◌≡◌, ◌≤◌, ℕ, OnOk, OnErr};
 ghost use Rattle.line_model.specs.LinkStory.{Story, IsTime, IsPlace, Sends, SendsOrNot, Renews, RenewsOrNot};
-ghost use Rattle.line_model.specs.Polled.{PollsSo, FailsWhere, NeverFall};
+ghost use Rattle.line_model.specs.Polled.{PollsSo, after_call};
 
 use knx_model::NoMemory;
 
@@ -40,7 +40,7 @@ pub enum Polled {
 pub trait Link: Drop {
     ghost use Rattle.line_model.specs.LinkStory.{Story};
     ghost use Rattle.line_model.specs.Lines.{Script};
-    ghost use Rattle.line_model.specs.declared.outside.link_counts.LinkCounts.{LinkCounts};
+    ghost use Rattle.line_model.specs.declared.outside.fault_counts.FaultCounts.{FaultCounts};
     ghost use Rattle.std.specs.Prelude.{ℕ};
 
     /// What it tells of itself.
@@ -55,15 +55,14 @@ pub trait Link: Drop {
     /// How many events there were; of a link that tells its record and no events, how many entries it has.
     ghost place: { Self → ℕ };
 
-    /// How many calls failed, and how many answered that there was no memory; neither falls.
-    ghost faults: { Self → LinkCounts };
+    /// How many calls failed, and how many answered that there was no memory.
+    ghost faults: { Self → FaultCounts };
 
     /// Sends a datagram.
     fn send(&mut self, octets: &[u8]) -> Result<(), LinkFault>
         ensures sent { OnOk result (Sends octets.now (story self.old) (story self.new)) }
         ensures failed { OnErr result (SendsOrNot octets.now (story self.old) (story self.new)) }
-        ensures cause { FailsWhere result (faults self.old) (faults self.new) }
-        ensures count { NeverFall (faults self.old) (faults self.new) }
+        ensures counts { faults self.new ≡ after_call result (faults self.old) }
         ensures time { clock self.new ≡ clock self.old }
         ensures events { place self.old ≤ place self.new }
         ensures script { script self.new ≡ script self.old };
@@ -72,8 +71,7 @@ pub trait Link: Drop {
     fn renew(&mut self) -> Result<(), LinkFault>
         ensures renewed { OnOk result (Renews (story self.old) (story self.new)) }
         ensures failed { OnErr result (RenewsOrNot (story self.old) (story self.new)) }
-        ensures cause { FailsWhere result (faults self.old) (faults self.new) }
-        ensures count { NeverFall (faults self.old) (faults self.new) }
+        ensures counts { faults self.new ≡ after_call result (faults self.old) }
         ensures time { clock self.new ≡ clock self.old }
         ensures events { place self.old ≤ place self.new }
         ensures script { script self.new ≡ script self.old };
@@ -81,8 +79,7 @@ pub trait Link: Drop {
     /// Waits for a datagram. Meanwhile whatever is legal may happen on the line.
     fn poll(&mut self, into: &mut [u8; 512], wait_ms: u32) -> Result<Polled, LinkFault>
         ensures polled { PollsSo result into.new wait_ms (clock self.new) (story self.old) (story self.new) }
-        ensures cause { FailsWhere result (faults self.old) (faults self.new) }
-        ensures count { NeverFall (faults self.old) (faults self.new) }
+        ensures counts { faults self.new ≡ after_call result (faults self.old) }
         ensures time { clock self.old ≤ clock self.new }
         ensures events { place self.old ≤ place self.new }
         ensures script { script self.new ≡ script self.old };

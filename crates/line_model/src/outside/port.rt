@@ -1,7 +1,7 @@
 //! The port where a gateway serves clients that it doesn't know.
 
-ghost use Rattle.std.specs.Prelude.{◌≡◌, ◌≤◌, ℕ, OnOk, OnErr};
-ghost use Rattle.line_model.specs.PortStory.{PortStory, Gave, Adds, TakesSo, GivesOrNot, FailsWhere};
+ghost use Rattle.std.specs.Prelude.{◌≡◌, ℕ, OnOk, OnErr};
+ghost use Rattle.line_model.specs.PortStory.{PortStory, Gave, Adds, TakesSo, GivesOrNot, after_call};
 
 use knx_model::NoMemory;
 
@@ -42,19 +42,17 @@ pub trait Port: Drop {
     /// What it tells of itself.
     ghost story: { Self → PortStory };
 
-    /// How many calls failed; it never falls.
+    /// How many calls failed.
     ghost faults: { Self → ℕ };
 
     /// Waits for a datagram, at most so many milliseconds.
     fn take(&mut self, into: &mut [u8; 512], wait_ms: u32) -> Result<PortPolled, PortFault>
         ensures taken { TakesSo result into.new wait_ms (story self.old) (story self.new) }
-        ensures cause { FailsWhere result (faults self.old) (faults self.new) }
-        ensures count { faults self.old ≤ faults self.new };
+        ensures counts { faults self.new ≡ after_call result (faults self.old) };
 
     /// Gives a datagram to a client.
     fn give(&mut self, to: u32, octets: &[u8]) -> Result<(), PortFault>
         ensures given { OnOk result (Adds (Gave to octets.now) (story self.old) (story self.new)) }
         ensures failed { OnErr result (GivesOrNot to octets.now (story self.old) (story self.new)) }
-        ensures cause { FailsWhere result (faults self.old) (faults self.new) }
-        ensures count { faults self.old ≤ faults self.new };
+        ensures counts { faults self.new ≡ after_call result (faults self.old) };
 }

@@ -6,12 +6,12 @@ ghost use Rattle.hub_core.specs.Left.{AllDone};
 ghost use Rattle.hub_core.specs.Promises.{LeavesOver};
 ghost use Rattle.hub_core.specs.Seen.{tasks_seen};
 ghost use Rattle.hub_core.specs.Closed.{HasClosed};
-ghost use Rattle.hub_core.specs.Since.{CausedSince};
 ghost use Rattle.hub_core.specs.Heard.{HeardIn};
 ghost use Rattle.hub_core.specs.Seats.{IsOfWorkers};
 ghost use Rattle.hub_work.specs.Books.{AreJobsOf};
 ghost use Rattle.line_model.specs.LinkStory.{record_in};
-ghost use Rattle.line_model.specs.declared.outside.link_counts.LinkCounts.{LinkCounts};
+ghost use Rattle.line_model.specs.Polled.{after_fault};
+ghost use Rattle.line_model.specs.declared.outside.fault_counts.FaultCounts.{FaultCounts};
 ghost use Rattle.line_model.specs.Log.{Job};
 ghost use Rattle.tunnel_link.specs.Rights.{WhereTold};
 
@@ -30,7 +30,7 @@ impl<L: Link> Ending<L> {
         ensures link { result.0 ≡ self.hub.link }
         ensures log { log_of result.1 ≡ self.hub.log }
         ensures tells { (workers : ℕ) → IsOfWorkers workers self.hub.log → TellsRun workers (tasks_seen self.hub.jobs) self.hub.devices self.hub.turns (L.story result.0) (L.place result.0) result.1 }
-        ensures caused { (before : LinkCounts) → CausedSince before self.hub.fault (L.faults self.hub.link) → CausedSince before result.1.fault (L.faults result.0) }
+        ensures counts { (before : FaultCounts) → L.faults self.hub.link ≡ after_fault self.hub.fault before → L.faults result.0 ≡ after_fault result.1.fault before }
     {
         let Ending { hub, heard } = self;
         hub.keeps();

@@ -3,10 +3,9 @@
 ghost use Rattle.std.specs.Prelude.{◌≡◌, ◌≤◌, IfErr, OnOk, Some, None};
 ghost use Rattle.line_model.specs.ClientEnd.{IsCemi};
 ghost use Rattle.line_model.specs.LinkStory.{IsTime, clock_of};
-ghost use Rattle.line_model.specs.Polled.{NeverFall};
 ghost use Rattle.tunnel_link.specs.Alone.{Each, EndsNone, LeavesAlone, SendsOnce};
 ghost use Rattle.tunnel_link.specs.Goes.{GoesOn, AfterFault};
-ghost use Rattle.tunnel_link.specs.Rights.{FailsWhere, IsOfTunnel};
+ghost use Rattle.tunnel_link.specs.Rights.{IsOfTunnel, after_result};
 ghost use Rattle.tunnel_link.specs.Adds.{Growing, place_of, Seeks, PutsOne, Leaves, Dues, Acts, PollAdds, AllPrompt, HasActed, Ready};
 ghost use Rattle.tunnel_link.specs.Kept.{with_due};
 ghost use Rattle.tunnel_link.specs.Lasts.{LastsRightly};
@@ -28,10 +27,9 @@ impl<L: Link> Tunnel<L> {
         ensures by_tunnel { self.old.known.fault ≡ None → IfErr result IsOfTunnel }
         ensures ended { AfterFault self.old result self.new }
         ensures time { L.clock self.old.link ≤ L.clock self.new.link }
-        ensures count { NeverFall (L.faults self.old.link) (L.faults self.new.link) }
         ensures events { L.place self.old.link ≤ L.place self.new.link }
         ensures script { L.script self.new.link ≡ L.script self.old.link }
-        ensures cause { self.old.known.fault ≡ None → IfErr result (λ fault. FailsWhere fault (L.faults self.old.link) (L.faults self.new.link)) }
+        ensures counts { self.old.known.fault ≡ None → L.faults self.new.link ≡ after_result result (L.faults self.old.link) }
         ensures alone { Growing (Each EndsNone) (L.story self.old.link) (L.story self.new.link) }
         ensures timeless { Growing (Each TakesNoTime) (L.story self.old.link) (L.story self.new.link) }
         ensures ready { OnOk result (HasActed self.old.known (L.story self.old.link) → Ready self.new.known (L.story self.new.link)) }
@@ -54,10 +52,9 @@ impl<L: Link> Tunnel<L> {
         ensures by_tunnel { self.old.known.fault ≡ None → IfErr result IsOfTunnel }
         ensures ended { AfterFault self.old result self.new }
         ensures time { L.clock self.old.link ≤ L.clock self.new.link }
-        ensures count { NeverFall (L.faults self.old.link) (L.faults self.new.link) }
         ensures events { L.place self.old.link ≤ L.place self.new.link }
         ensures script { L.script self.new.link ≡ L.script self.old.link }
-        ensures cause { self.old.known.fault ≡ None → IfErr result (λ fault. FailsWhere fault (L.faults self.old.link) (L.faults self.new.link)) }
+        ensures counts { self.old.known.fault ≡ None → L.faults self.new.link ≡ after_result result (L.faults self.old.link) }
         ensures alone { Growing (Each LeavesAlone) (L.story self.old.link) (L.story self.new.link) }
         ensures timeless { Growing (Each TakesNoTime) (L.story self.old.link) (L.story self.new.link) }
     {
@@ -78,10 +75,9 @@ impl<L: Link> Tunnel<L> {
         ensures by_tunnel { self.old.known.fault ≡ None → IfErr result IsOfTunnel }
         ensures ended { AfterFault self.old result self.new }
         ensures time { L.clock self.old.link ≤ L.clock self.new.link }
-        ensures count { NeverFall (L.faults self.old.link) (L.faults self.new.link) }
         ensures events { L.place self.old.link ≤ L.place self.new.link }
         ensures script { L.script self.new.link ≡ L.script self.old.link }
-        ensures cause { self.old.known.fault ≡ None → IfErr result (λ fault. FailsWhere fault (L.faults self.old.link) (L.faults self.new.link)) }
+        ensures counts { self.old.known.fault ≡ None → L.faults self.new.link ≡ after_result result (L.faults self.old.link) }
         ensures alone { Growing SendsOnce (L.story self.old.link) (L.story self.new.link) }
         ensures timeless { Growing (Each TakesNoTime) (L.story self.old.link) (L.story self.new.link) }
     {
@@ -104,10 +100,9 @@ impl<L: Link> Tunnel<L> {
         ensures by_tunnel { self.old.known.fault ≡ None → IfErr result IsOfTunnel }
         ensures ended { AfterFault self.old result self.new }
         ensures time { L.clock self.old.link ≤ L.clock self.new.link }
-        ensures count { NeverFall (L.faults self.old.link) (L.faults self.new.link) }
         ensures events { L.place self.old.link ≤ L.place self.new.link }
         ensures script { L.script self.new.link ≡ L.script self.old.link }
-        ensures cause { self.old.known.fault ≡ None → IfErr result (λ fault. FailsWhere fault (L.faults self.old.link) (L.faults self.new.link)) }
+        ensures counts { self.old.known.fault ≡ None → L.faults self.new.link ≡ after_result result (L.faults self.old.link) }
         ensures alone { Growing (Each LeavesAlone) (L.story self.old.link) (L.story self.new.link) }
         ensures timeless { Growing (Each TakesNoTime) (L.story self.old.link) (L.story self.new.link) }
         ensures acted { OnOk result (HasActed self.new.known (L.story self.new.link)) }
@@ -131,10 +126,9 @@ impl<L: Link> Tunnel<L> {
         ensures stands { OnOk result (self.new.known.fault ≡ None) }
         ensures by_tunnel { IfErr result IsOfTunnel }
         ensures time { L.clock self.old.link ≤ L.clock self.new.link }
-        ensures count { NeverFall (L.faults self.old.link) (L.faults self.new.link) }
         ensures events { L.place self.old.link ≤ L.place self.new.link }
         ensures script { L.script self.new.link ≡ L.script self.old.link }
-        ensures cause { IfErr result (λ fault. FailsWhere fault (L.faults self.old.link) (L.faults self.new.link)) }
+        ensures counts { L.faults self.new.link ≡ after_result result (L.faults self.old.link) }
         ensures alone { Growing (Each LeavesAlone) (L.story self.old.link) (L.story self.new.link) }
         ensures timeless { Growing (Each TakesNoTime) (L.story self.old.link) (L.story self.new.link) }
         ensures known { OnOk result (self.new.known ≡ with_due self.old.known now) }
@@ -159,10 +153,9 @@ impl<L: Link> Tunnel<L> {
         ensures by_tunnel { self.old.known.fault ≡ None → IfErr result IsOfTunnel }
         ensures ended { AfterFault self.old result self.new }
         ensures time { L.clock self.old.link ≤ L.clock self.new.link }
-        ensures count { NeverFall (L.faults self.old.link) (L.faults self.new.link) }
         ensures events { L.place self.old.link ≤ L.place self.new.link }
         ensures script { L.script self.new.link ≡ L.script self.old.link }
-        ensures cause { self.old.known.fault ≡ None → IfErr result (λ fault. FailsWhere fault (L.faults self.old.link) (L.faults self.new.link)) }
+        ensures counts { self.old.known.fault ≡ None → L.faults self.new.link ≡ after_result result (L.faults self.old.link) }
         ensures alone { Growing (Each LeavesAlone) (L.story self.old.link) (L.story self.new.link) }
         ensures prompt { Ready self.old.known (L.story self.old.link) → Growing AllPrompt (L.story self.old.link) (L.story self.new.link) }
         ensures beats { HasActed self.old.known (L.story self.old.link) → Growing (Each BeatsInTime) (L.story self.old.link) (L.story self.new.link) }

@@ -1,7 +1,7 @@
 //! Each state by each frame and by each time.
 
 use super::{
-    At, CEMI, From, TUNNEL, again, channel, closed, disconnect_request, frame, given, gone,
+    At, From, TUNNEL, again, channel, closed, connecting, disconnect_request, frame, given, gone,
     heartbeat, request,
 };
 use knx_model::Datagram;
@@ -138,7 +138,7 @@ fn each_state_puts_and_leaves(rt: HostRuntime) {
     ];
     for (at, put, leaves) in rows {
         let mut channel = channel(at);
-        assert_eq!(rt; channel.put(&CEMI, 60_000), put, "in {at:?}");
+        assert_eq!(rt; channel.put(&connecting(), 60_000), put, "in {at:?}");
         let request = if leaves {
             Some(disconnect_request())
         } else {

@@ -1,7 +1,8 @@
 //! What is in vain, in turn, and numbers that come again.
 
 use super::{
-    At, CEMI, From, again, channel, disconnect_request, frame, given, heartbeat, open, request,
+    At, From, again, channel, connecting, disconnect_request, frame, given, heartbeat, open,
+    request,
 };
 use std::process::Abort;
 use tunnel_channel::{Channel, ChannelExpired, ChannelTook};
@@ -66,11 +67,11 @@ fn of_several_that_are_due_the_first_comes(rt: HostRuntime) {
     ];
     let mut dying = open();
     assert_due(&rt, &mut dying, &beats);
-    let _ = dying.put(&CEMI, 180_000);
+    let _ = dying.put(&connecting(), 180_000);
     assert_due(&rt, &mut dying, &[(190_000, ChannelExpired::Dead)]);
     let mut lapsing = open();
     assert_due(&rt, &mut lapsing, &beats);
-    let _ = lapsing.put(&CEMI, 180_000);
+    let _ = lapsing.put(&connecting(), 180_000);
     let last = [
         (181_000, ChannelExpired::Repeat(request(0))),
         (190_000, ChannelExpired::Lost),
@@ -82,7 +83,7 @@ fn of_several_that_are_due_the_first_comes(rt: HostRuntime) {
 fn numbers_come_again_after_256(rt: HostRuntime) {
     let mut channel = open();
     for number in 0..=u8::MAX {
-        assert_eq!(rt; channel.put(&CEMI, 0), Ok(request(number)));
+        assert_eq!(rt; channel.put(&connecting(), 0), Ok(request(number)));
         assert_eq!(rt;
             channel.take(&frame(From::Ack(7, number, 0)), 0),
             ChannelTook::Acked
@@ -96,6 +97,6 @@ fn numbers_come_again_after_256(rt: HostRuntime) {
             again(number)
         );
     }
-    assert_eq!(rt; channel.put(&CEMI, 0), Ok(request(0)));
+    assert_eq!(rt; channel.put(&connecting(), 0), Ok(request(0)));
     assert_eq!(rt; channel.take(&frame(From::Request(7, 0)), 0), given(0));
 }

@@ -1,6 +1,5 @@
 use Rattle.std.proofs.Common.{◌∙◌, ◌-◌, ◌≤◌, ap, subst, sym, inl, inr, refl, arith}
 use Rattle.line_model.specs.LinkStory.{clock_of}
-use Rattle.line_model.proofs.Counted.{fall_never, stand}
 use Rattle.tunnel_link.specs.Alone.{EndsNone}
 use Rattle.tunnel_link.proofs.Alone.{both_each, none_each}
 use Rattle.tunnel_link.proofs.Stories.{goes_again, goes_same}
@@ -19,7 +18,7 @@ loop-init g c = record {
   stands = c.requires.stands;
   grows = goes_same _;
   alone = none_each EndsNone _;
-  count = stand (g.L.Link.faults c.args.tunnel.now.link);
+  counts = refl;
   script = refl;
 }
 
@@ -70,6 +69,6 @@ loop-preserved g c = record {
   stands = c.in_ok-came.ensures.stands;
   grows = goes_again _ _ _ c.loop.invariant.grows c.waits.ensures.grows;
   alone = both_each EndsNone _ _ _ c.loop.invariant.grows c.waits.ensures.grows c.loop.invariant.alone c.waits.ensures.alone;
-  count = fall_never (g.L.Link.faults c.args.tunnel.now.link) (g.L.Link.faults c.loop.tunnel.link) (g.L.Link.faults c.waits.new.tunnel.link) c.loop.invariant.count c.waits.ensures.count;
+  counts = c.in_ok-came.ensures.counts ∙ c.loop.invariant.counts;
   script = c.waits.ensures.script ∙ c.loop.invariant.script;
 }

@@ -1,6 +1,5 @@
 use Rattle.std.proofs.Common.{◌≡◌, List, None}
 use Rattle.knx_model.specs.declared.address.IndAddr.{IndAddr as Address}
-use Rattle.line_model.specs.Polled.{NeverFall}
 use Rattle.line_model.specs.LinkStory.{newest_time}
 use Rattle.line_model.specs.Record.{Placed, entries}
 use Rattle.tunnel_link.specs.Adds.{Growing}
@@ -22,6 +21,6 @@ invariant-loop g l = record {
   stands : l.tunnel.known.fault ≡ None;
   grows : GoesOn (g.L.Link.story l.fn.tunnel.link) (g.L.Link.story l.tunnel.link);
   alone : Growing (Each EndsNone) (g.L.Link.story l.fn.tunnel.link) (g.L.Link.story l.tunnel.link);
-  count : NeverFall (g.L.Link.faults l.fn.tunnel.link) (g.L.Link.faults l.tunnel.link);
+  counts : g.L.Link.faults l.tunnel.link ≡ g.L.Link.faults l.fn.tunnel.link;
   script : g.L.Link.script l.tunnel.link ≡ g.L.Link.script l.fn.tunnel.link;
 }

@@ -6,8 +6,8 @@ returns-clause-units g c =
     rw c.end-link.ensures (units_kept c.args.wanted c.talk-result.result c.talk-result.new.tunnel.known (g.L.Link.story c.talk-result.new.tunnel.link) (g.L.AddressLink.told c.talk-result.new.tunnel.link) c.talk-result.ensures.ends c.keeps.ensures.record (rw (← c.end-link.ensures) c.tells.ensures)
     (c.requests_are_those_that_were_put.ensures c.args.wanted) (c.units_keep_their_addresses.ensures c.args.wanted))
 
-pub returns-clause-leaves : goal.returns-clause-leaves
-returns-clause-leaves g c = rw c.end-link.ensures (rw (← c.begin-tunnel.ensures.link) c.talk-result.ensures.leaves)
+pub returns-clause-counts : goal.returns-clause-counts
+returns-clause-counts g c = rw c.end-link.ensures (rw (← c.begin-tunnel.ensures.link) c.talk-result.ensures.counts)
 
 pub returns-clause-determined : goal.returns-clause-determined
 returns-clause-determined g c =

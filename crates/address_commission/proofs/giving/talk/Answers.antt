@@ -1,7 +1,7 @@
-use Rattle.std.proofs.Common.{arith, subst, sym}
+use Rattle.std.proofs.Common.{◌∙◌, subst, sym}
 use Rattle.address_talk.specs.Ends.{EndsSo}
 use Rattle.address_commission.proofs.Calls.{handed_on}
-use Rattle.address_commission.proofs.Closing.{answered_at, closing_fails, left_so, rose_from}
+use Rattle.address_commission.proofs.Closing.{answered_at, closing_fails, counts_end}
 use Rattle.address_commission.proofs.Ends.{fails_before, new_listens, open_begins}
 use Rattle.address_commission.specs.Exact.{WhereClock}
 use Rattle.address_commission.proofs.giving.talk.Goals as goal
@@ -30,9 +30,9 @@ returns-in_err-close-clause-ends g c =
     subst (λ r. WhereClock (EndsSo c.args.wanted r) (g.L.Link.story c.close.new.tunnel.link)) (sym (handed_on c.from_residual-in_err-close.result _ c.from_residual-in_err-close.ensures))
     (closing_fails c.args.wanted c.in_ok-assigned.assigned _ _ _ c.in_ok-assigned.ensures.gives (c.in_err-close.ensures.closes c.args.wanted) c.in_err-close.ensures.paces c.in_err-close.ensures.fails c.in_err-close.ensures.late)
 
-pub returns-clause-leaves : goal.returns-clause-leaves
-returns-clause-leaves g c = λ still.
-    left_so c.args.wanted c.in_ok-assigned.assigned _ _ c.in_ok-assigned.ensures.gives (c.in_ok-close.ensures.leaves (λ rose. still (rose_from _ _ _ (omega (arith, c.open.ensures.count.0, c.give.ensures.count.0)) rose)))
+pub returns-clause-counts : goal.returns-clause-counts
+returns-clause-counts g c =
+    counts_end c.args.wanted c.in_ok-assigned.assigned _ _ _ _ _ (c.in_ok-assigned.ensures.counts ∙ c.in_ok-open.ensures.counts) c.in_ok-assigned.ensures.gives c.in_ok-close.ensures.leaves
 
 pub close-requires-clause-kept : goal.close-requires-clause-kept
 close-requires-clause-kept g c places p = (c.in_ok-assigned.ensures.gives places p).stands.kept

@@ -1,5 +1,4 @@
 use Rattle.std.proofs.Common.{subst, sym, ◌∙◌, Ok}
-use Rattle.line_model.proofs.Counted.{fall_never}
 use Rattle.address_commission.specs.Calls.{TalkGoes}
 use Rattle.address_talk.specs.Rounds.{SameRounds}
 use Rattle.address_commission.proofs.Calls.{handed_on, goes_then, none_awaited}
@@ -29,9 +28,7 @@ loop-preserved g c = record {
   goes = goes_then tt c.args.ear.now c.loop.ear c.poll.new.ear _ _ _ _
       (goes_then tt c.args.ear.now c.loop.ear c.loop.ear _ _ _ _ (goes_then tt c.args.ear.now c.loop.ear c.loop.ear _ _ _ _ c.loop.invariant.goes (c.in_ok-act.ensures.goes c.loop.ear)) (c.in_ok-seek.ensures.goes c.loop.ear)) c.in_ok-poll.ensures.goes;
   stands = c.in_ok-poll.ensures.stands;
-  count = fall_never (g.L.Link.faults c.args.tunnel.now.link) (g.L.Link.faults c.seek.new.tunnel.link) (g.L.Link.faults c.poll.new.tunnel.link)
-      (fall_never (g.L.Link.faults c.args.tunnel.now.link) (g.L.Link.faults c.act.new.tunnel.link) (g.L.Link.faults c.seek.new.tunnel.link) (fall_never (g.L.Link.faults c.args.tunnel.now.link) (g.L.Link.faults c.loop.tunnel.link) (g.L.Link.faults c.act.new.tunnel.link) c.loop.invariant.count c.act.ensures.count) c.seek.ensures.count)
-      c.poll.ensures.count;
+  counts = c.in_ok-poll.ensures.counts ∙ c.in_ok-seek.ensures.counts ∙ c.in_ok-act.ensures.counts ∙ c.loop.invariant.counts;
   script = c.poll.ensures.script ∙ c.seek.ensures.script ∙ c.act.ensures.script ∙ c.loop.invariant.script;
 }
 

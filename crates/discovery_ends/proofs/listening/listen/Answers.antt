@@ -15,7 +15,7 @@ loop-link-preserved g c =
           (datagram_came c.in-Ok-Datagram.field-0 c.loop-link.finder.inquiry c.args.finder.now.inquiry c.loop-link.invariant.inquiry (g.L.Link.story c.loop-link.link) (g.L.Link.story c.poll.new.link) c.loop-link.finder.found c.poll.new.finder.found c.in-Ok-Datagram.ensures.so is clock);
       untold = λ e. c.poll.ensures.untold (c.loop-link.invariant.untold e);
       inquiry = search rules;
-      count = search rules;
+      counts = search rules;
       time = search rules;
       events = search rules;
       script = search rules;

@@ -1,6 +1,5 @@
 use Rattle.std.proofs.Common.{◌≡◌, ℕ, ◌+◌, ◌≤◌, List, length}
 use Rattle.line_model.specs.LinkStory.{Clock, Untold}
-use Rattle.line_model.specs.Polled.{NeverFall}
 use Rattle.line_model.specs.Record.{Entry}
 use Rattle.discovery_ends.specs.Searching.{most_datagrams, Takes}
 use Rattle.discovery_ends.specs.Going.{Awake, Goes}
@@ -12,7 +11,7 @@ invariant-loop-link g l = record {
       → Goes clock l.fn.finder.inquiry r got (g.L.Link.story l.link) l.finder.found l.left;
   untold : g.L.Link.story l.fn.link ≡ Untold → g.L.Link.story l.link ≡ Untold;
   inquiry : l.finder.inquiry ≡ l.fn.finder.inquiry;
-  count : NeverFall (g.L.Link.faults l.fn.link) (g.L.Link.faults l.link);
+  counts : g.L.Link.faults l.link ≡ g.L.Link.faults l.fn.link;
   time : g.L.Link.clock l.fn.link ≤ g.L.Link.clock l.link;
   events : g.L.Link.place l.fn.link ≤ g.L.Link.place l.link;
   script : g.L.Link.script l.link ≡ g.L.Link.script l.fn.link;

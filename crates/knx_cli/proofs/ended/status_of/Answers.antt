@@ -4,17 +4,8 @@ use Rattle.knx_cli.proofs.ended.status_of.Goals as goal
 pub returns-in-Ok-clause-does : goal.returns-in-Ok-clause-does
 returns-in-Ok-clause-does g c = rw (c.in-Ok.is, ← c.as_slice.ensures.value, told c.knx.result c.number.result c.number.ensures) c.knx.ensures.does
 
-pub returns-in-Ok-clause-line : goal.returns-in-Ok-clause-line
-returns-in-Ok-clause-line g c = rw (c.in-Ok.is, ← c.as_slice.ensures.value) c.knx.ensures.line
-
 pub returns-in-Ok-clause-undialled : goal.returns-in-Ok-clause-undialled
 returns-in-Ok-clause-undialled g c = rw (c.in-Ok.is, ← c.as_slice.ensures.value) c.knx.ensures.undialled
-
-pub returns-in-Ok-clause-no_run : goal.returns-in-Ok-clause-no_run
-returns-in-Ok-clause-no_run g c = rw (c.in-Ok.is, ← c.as_slice.ensures.value) c.knx.ensures.no_run
-
-pub returns-in-Ok-clause-faults : goal.returns-in-Ok-clause-faults
-returns-in-Ok-clause-faults g c = rw c.in-Ok.is c.knx.ensures.faults
 
 pub returns-in-Ok-clause-units : goal.returns-in-Ok-clause-units
 returns-in-Ok-clause-units g c = rw (c.in-Ok.is, ← c.as_slice.ensures.value) c.knx.ensures.units

@@ -1,7 +1,7 @@
-use Rattle.std.proofs.Common.{None, Some, ap, refl, sym}
+use Rattle.std.proofs.Common.{Some, ap, refl, sym}
 use Rattle.line_model.specs.Watched.{watch_in}
 use Rattle.knx_top.specs.Command.{command_of}
-use Rattle.knx_top.proofs.Calls.{faults_in, line_of, no_run_of, written}
+use Rattle.knx_top.proofs.Calls.{no_run_of, written}
 use Rattle.knx_top.proofs.Watches.{watches_of}
 use Rattle.knx_top.proofs.call.knx.Goals as goal
 
@@ -9,15 +9,6 @@ use Rattle.knx_top.proofs.call.knx.Goals as goal
 
 pub returns-in-Some-clause-does : goal.returns-in-Some-clause-does
 returns-in-Some-clause-does g c = rw (sym c.in-Some.ensures, c.report.ensures) (written (command_of c.in-Some.command) _ _ c.run-end.result _ c.run-end.ensures.does c.tell_end-status.ensures.told)
-
-pub returns-in-Some-clause-line : goal.returns-in-Some-clause-line
-returns-in-Some-clause-line g c = line_of _ _ _ _ (returns-in-Some-clause-does g c)
-
-pub returns-in-Some-clause-no_run : goal.returns-in-Some-clause-no_run
-returns-in-Some-clause-no_run g c = no_run_of _ _ _ _ (returns-in-Some-clause-does g c)
-
-pub returns-in-Some-clause-faults : goal.returns-in-Some-clause-faults
-returns-in-Some-clause-faults g c = faults_in _ _ _ _ (returns-in-Some-clause-does g c)
 
 pub returns-in-Some-clause-undialled : goal.returns-in-Some-clause-undialled
 returns-in-Some-clause-undialled g c = rw (sym c.in-Some.ensures) c.run-end.ensures.undialled
@@ -34,6 +25,3 @@ returns-in-Some-clause-watched g c = rw (sym c.in-Some.ensures, c.report.ensures
 
 pub returns-in-None-clause-does : goal.returns-in-None-clause-does
 returns-in-None-clause-does g c = rw (sym c.in-None.ensures) (c.tell.ensures.told, (λ _. refl), record { line = refl; report = refl })
-
-pub returns-in-None-clause-faults : goal.returns-in-None-clause-faults
-returns-in-None-clause-faults g c = (None, λ _. refl)

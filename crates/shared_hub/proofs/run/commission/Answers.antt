@@ -1,10 +1,9 @@
-use Rattle.std.proofs.Common.{◌≡◌, ◌⊎◌, inr, Option, None, refl, reverse, sym, subst, ap, ◌∙◌}
-use Rattle.std.specs.Prelude.{IfSome, length}
+use Rattle.std.proofs.Common.{◌≡◌, ◌⊎◌, inr, None, refl, reverse, sym, subst, ap, ◌∙◌}
+use Rattle.std.specs.Prelude.{length}
 use Rattle.std.proofs.lemmas.List.{length-replicate}
-use Rattle.line_model.specs.declared.fault.HubFault.{HubFault}
 use Rattle.line_model.specs.LinkStory.{IsNewLink}
+use Rattle.line_model.specs.Polled.{after_fault}
 use Rattle.tunnel_link.specs.Goes.{GoesOn}
-use Rattle.tunnel_link.specs.Rights.{FailsWhere}
 use Rattle.tunnel_link.proofs.Stories.{stays}
 use Rattle.hub_core.specs.Commissioned.{WantsAtFirst}
 use Rattle.shared_hub.proofs.New.{new_tells}
@@ -23,7 +22,7 @@ returns-in-Ok-clause-commissioned g c =
     record {
       grows = subst (λ l. GoesOn (g.L.Link.story l) (g.L.Link.story c.run.result.0)) link_is c.run.ensures.runs.grows;
       script = c.run.ensures.runs.script ∙ ap g.L.Link.script link_is;
-      cause = subst (λ l. IfSome c.run.result.1.fault (λ why. FailsWhere why (g.L.Link.faults l) (g.L.Link.faults c.run.result.0) ⊎ (WantsAtFirst why c.run.result.1 × (c.run.result.0 ≡ l)))) link_is c.run.ensures.runs.cause;
+      counts = subst (λ l. (g.L.Link.faults c.run.result.0 ≡ after_fault c.run.result.1.fault (g.L.Link.faults l)) ⊎ (WantsAtFirst c.run.result.1 × (c.run.result.0 ≡ l))) link_is c.run.ensures.runs.counts;
       tells = told_by _ _ many _ _ _ _ _ (told_for (length c.in-Ok.hub.crew) _ _ _ _ _ _ _ _ _ c.in-Ok.ensures.jobs c.in-Ok.ensures.devices c.in-Ok.ensures.turns c.run.ensures.runs.tells);
     }
 
@@ -33,9 +32,8 @@ returns-in-Err-clause-commissioned g c =
     record {
       grows = subst (λ l. GoesOn (g.L.Link.story c.args.link) (g.L.Link.story l)) (sym link_is) (stays (g.L.Link.story c.args.link) (g.L.Link.story c.args.link) refl).on;
       script = ap g.L.Link.script link_is;
-      cause = subst (λ (f : Option HubFault). IfSome f (λ why. FailsWhere why (g.L.Link.faults c.args.link) (g.L.Link.faults c.in-Err.link) ⊎ (WantsAtFirst why c.nothing_done.result × (c.in-Err.link ≡ c.args.link)))) (sym c.nothing_done.ensures.fault)
-          (inr (record { wants = tt; log = c.nothing_done.ensures.log; heard = c.nothing_done.ensures.heard; missed = c.nothing_done.ensures.missed; dropped = c.nothing_done.ensures.dropped }, link_is));
-      tells = new_tells c.every_safe_interleaving.ensures c.args.workers _ _ _ (g.L.Link.story c.in-Err.link) _ c.nothing_done.result _ (subst (λ l. IsNewLink (g.L.Link.story l)) (sym link_is) c.requires.new) c.nothing_done.ensures.log c.nothing_done.ensures.heard c.nothing_done.ensures.missed c.nothing_done.ensures.dropped c.nothing_done.ensures.fault tt;
+      counts = inr (record { wants = c.nothing_done.ensures.fault; log = c.nothing_done.ensures.log; heard = c.nothing_done.ensures.heard; missed = c.nothing_done.ensures.missed; dropped = c.nothing_done.ensures.dropped }, link_is);
+      tells = new_tells c.every_safe_interleaving.ensures c.args.workers _ _ _ (g.L.Link.story c.in-Err.link) _ c.nothing_done.result (subst (λ l. IsNewLink (g.L.Link.story l)) (sym link_is) c.requires.new) c.nothing_done.ensures.log c.nothing_done.ensures.heard c.nothing_done.ensures.missed c.nothing_done.ensures.dropped c.nothing_done.ensures.fault;
     }
 
 pub run-requires-clause-watched : goal.run-requires-clause-watched

@@ -32,7 +32,7 @@ end-link-requires-clause-heard g c =
 pub returns-clause-runs : goal.returns-clause-runs
 returns-clause-runs g c =
     let keeps : SiteKeeps g.L.Link.story g.L.Link.script g.L.Link.faults c.apart-hub.result.hub c.args.site.opening.value c.apart-hub.result.feed c.args.site.relay.value = rw (c.apart-hub.ensures.hub, c.apart-hub.ensures.feed) c.apart-hub.ensures.keeps in
-    ends_so g.L.Link.story g.L.Link.place g.L.Link.script g.L.Link.faults c.apart-hub.result.hub c.close-heard.new.hub _ _ _ keeps c.close-heard.ensures.hub _ _ c.end-link.ensures.grows c.end-link.ensures.script c.end-link.ensures.tells c.end-link.ensures.caused
+    ends_so g.L.Link.story g.L.Link.place g.L.Link.script g.L.Link.faults c.apart-hub.result.hub c.close-heard.new.hub _ _ _ keeps c.close-heard.ensures.hub _ _ c.end-link.ensures.grows c.end-link.ensures.script c.end-link.ensures.tells c.end-link.ensures.counts
 
 pub returns-clause-watched : goal.returns-clause-watched
 returns-clause-watched g c =

@@ -32,8 +32,8 @@ returns-in-Ok-clause-watched g c =
 pub returns-clause-runs : goal.returns-clause-runs
 returns-clause-runs g c =
     let same : c.given_up-link.result.0 ≡ c.args.hub.link = c.given_up-link.ensures.link ∙ (ap (λ s. s.hub.link) c.in-Err.ensures.refused ∙ ap (λ h. h.link) c.new.ensures.hub) in
-    runs_not g.L.Link.story g.L.Link.place g.L.Link.script g.L.Link.faults c.args.hub c.given_up-link.result.0 c.nothing_done.result _ c.every_safe_interleaving.ensures c.requires.opening.link same
-    c.nothing_done.ensures.log c.nothing_done.ensures.heard c.nothing_done.ensures.missed c.nothing_done.ensures.dropped c.nothing_done.ensures.fault tt
+    runs_not g.L.Link.story g.L.Link.place g.L.Link.script g.L.Link.faults c.args.hub c.given_up-link.result.0 c.nothing_done.result c.every_safe_interleaving.ensures c.requires.opening.link same
+    c.nothing_done.ensures.log c.nothing_done.ensures.heard c.nothing_done.ensures.missed c.nothing_done.ensures.dropped c.nothing_done.ensures.fault
 
 pub returns-clause-watched : goal.returns-clause-watched
 returns-clause-watched g c =

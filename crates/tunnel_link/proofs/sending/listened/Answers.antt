@@ -1,5 +1,6 @@
-use Rattle.std.proofs.Common.{rules, inl}
-use Rattle.tunnel_link.proofs.Caused.{cause_on, polled_tries}
+use Rattle.std.proofs.Common.{rules, inl, ap, ◌∙◌}
+use Rattle.tunnel_link.specs.Rights.{after_result}
+use Rattle.tunnel_link.proofs.Counted.{counts_on, polled_tries}
 use Rattle.tunnel_link.proofs.Results.{answers_so}
 use Rattle.tunnel_link.proofs.sending.listened.Goals as goal
 
@@ -13,7 +14,10 @@ returns-in_err-answered-clause-so g c = inl (record {
   gives = search rules;
 })
 
-pub returns-in_err-answered-clause-cause : goal.returns-in_err-answered-clause-cause
-returns-in_err-answered-clause-cause g c =
-    λ calm. (cause_on c.answered.result c.from_residual-in_err-answered.result c.in_err-answered.field-0.0 (g.L.Link.faults c.args.link.now) (g.L.Link.faults c.polled.new.link) (g.L.Link.faults c.answered.new.link) (search rules) (search rules)
-    (c.answered.ensures.cause (polled_tries _ _ _ _ _ _ calm c.in_ok-what.ensures.so)) c.polled.ensures.count)
+pub returns-in_err-answered-clause-counts : goal.returns-in_err-answered-clause-counts
+returns-in_err-answered-clause-counts g c = λ calm.
+    c.answered.ensures.counts (polled_tries _ _ _ _ _ _ calm c.in_ok-what.ensures.so) ∙ (ap (after_result c.answered.result) c.in_ok-what.ensures.counts
+    ∙ counts_on c.answered.result c.from_residual-in_err-answered.result c.in_err-answered.field-0.0 (g.L.Link.faults c.args.link.now) (search rules) (search rules))
+
+pub returns-clause-counts : goal.returns-clause-counts
+returns-clause-counts g c = λ calm. c.in_ok-answered.ensures.counts (polled_tries _ _ _ _ _ _ calm c.in_ok-what.ensures.so) ∙ c.in_ok-what.ensures.counts

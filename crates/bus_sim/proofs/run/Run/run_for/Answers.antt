@@ -4,7 +4,6 @@ use Rattle.line_model.specs.World.{Pass}
 use Rattle.bus_sim.specs.Polls.{StopsWithin}
 use Rattle.bus_sim.specs.RunNow.{RunNow}
 use Rattle.bus_sim.specs.Turns.{Turns, Gets, Passes, PassesQuietly}
-use Rattle.bus_sim.proofs.Faults.{no_less}
 use Rattle.bus_sim.proofs.Polling.{OnErrAny, happens_smaller, smaller, goes_on, time_goes, stops, ends_got, ends_quiet}
 use Rattle.bus_sim.proofs.Turning.{goes_same}
 use Rattle.bus_sim.proofs.run.Run.run_for.Goals as goal
@@ -20,7 +19,7 @@ returns-in_err-letter-clause-err c = OnErrAny c.from_residual.result (StopsWithi
 
 pub returns-in-Got-clause-ended : goal.returns-in-Got-clause-ended
 returns-in-Got-clause-ended c = ends_got c.args.self.now c.loop-letter.self c.turn.new.self c.in-Got.letter c.loop-letter.left c.args.wait c.args.wait c.requires.one c.loop-letter.invariant
-    (subst (λ t. Turns t c.loop-letter.left c.loop-letter.self c.turn.new.self) c.in-Got.is c.in_ok-letter.ensures.turns) (no_less c.args.wait)
+    (subst (λ t. Turns t c.loop-letter.left c.loop-letter.self c.turn.new.self) c.in-Got.is c.in_ok-letter.ensures.turns) (omega arith)
 
 pub loop-letter-smaller-in-Went : goal.loop-letter-smaller-in-Went
 loop-letter-smaller-in-Went c =

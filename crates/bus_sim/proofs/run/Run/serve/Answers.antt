@@ -1,7 +1,6 @@
-use Rattle.std.proofs.Common.{arith}
+use Rattle.std.proofs.Common.{refl, ◌∙◌, arith}
 use Rattle.bus_sim.specs.RunNow.{seen}
 use Rattle.bus_sim.specs.Serving.{BreaksOff}
-use Rattle.bus_sim.proofs.Faults.{at_most, no_less}
 use Rattle.bus_sim.proofs.Polling.{OnErrAny}
 use Rattle.bus_sim.proofs.Quiets.{counts_none}
 use Rattle.bus_sim.proofs.Serves.{breaks_off, ended_so, on_so, serves_begins}
@@ -11,7 +10,7 @@ pub loop-left-init : goal.loop-left-init
 loop-left-init g c = record {
   serves = serves_begins c.args.turns c.args.self.now c.begin_to_serve.new.self (g.P.Port.story c.args.port.now) c.in_ok-begin_to_serve.ensures.begun c.in_ok-begin_to_serve.ensures.events;
   most = counts_none.most;
-  count = no_less (g.P.Port.faults c.args.port.now);
+  counts = refl;
 }
 
 pub returns-in_err-quiet-clause-broken : goal.returns-in_err-quiet-clause-broken
@@ -30,5 +29,5 @@ loop-left-preserved g c = record {
   serves = on_so c.loop-left.quiet c.in_ok-quiet.quiet c.loop-left.left c.args.turns c.args.self.now c.loop-left.self c.serve_turn.new.self (g.P.Port.story c.args.port.now) (g.P.Port.story c.loop-left.port) (g.P.Port.story c.serve_turn.new.port)
       c.loop-left.invariant.serves c.in_ok-quiet.ensures.turned c.has_ended.result c.has_ended.ensures (grind (arith, c.loop-left-test.true)) c.if-has_ended.false;
   most = c.in_ok-quiet.ensures.most;
-  count = at_most (g.P.Port.faults c.args.port.now) (g.P.Port.faults c.loop-left.port) (g.P.Port.faults c.serve_turn.new.port) c.loop-left.invariant.count c.serve_turn.ensures.count;
+  counts = c.in_ok-quiet.ensures.counts ∙ c.loop-left.invariant.counts;
 }

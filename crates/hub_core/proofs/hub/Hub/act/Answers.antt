@@ -26,12 +26,12 @@ invariant_of-self-2 g c =
 pub returns-in_err-acted-clause-since : goal.returns-in_err-acted-clause-since
 returns-in_err-acted-clause-since g c =
     let none : c.self.inside.tunnel.known.fault ≡ None = none_inside _ _ c.self.view_is c.requires.stands in
-    rw (← c.self.view_is) (call_since c.act.result none c.act.ensures.grows c.act.ensures.script (record { tasks = refl; devices = refl; turns = refl; workers = refl; missed = refl }) c.act.ensures.count (c.act.ensures.cause none) c.act.ensures.stands c.act.ensures.fault)
+    rw (← c.self.view_is) (call_since c.act.result none c.act.ensures.grows c.act.ensures.script (record { tasks = refl; devices = refl; turns = refl; workers = refl; missed = refl }) (c.act.ensures.counts none) c.act.ensures.stands c.act.ensures.fault)
 
 pub returns-clause-since : goal.returns-clause-since
 returns-clause-since g c =
     let none : c.self.inside.tunnel.known.fault ≡ None = none_inside _ _ c.self.view_is c.requires.stands in
-    rw (← c.self.view_is) (call_since c.act.result none c.act.ensures.grows c.act.ensures.script (record { tasks = refl; devices = refl; turns = refl; workers = refl; missed = refl }) c.act.ensures.count (c.act.ensures.cause none) c.act.ensures.stands c.act.ensures.fault)
+    rw (← c.self.view_is) (call_since c.act.result none c.act.ensures.grows c.act.ensures.script (record { tasks = refl; devices = refl; turns = refl; workers = refl; missed = refl }) (c.act.ensures.counts none) c.act.ensures.stands c.act.ensures.fault)
 
 pub returns-clause-heard : goal.returns-clause-heard
 returns-clause-heard g c = rw (← c.self.view_is) (hears_none _ _ _ c.in_ok-acted.ensures.adds (λ old added h. h.0))

@@ -58,17 +58,17 @@ is_over-is_over-requires-clause-over g c =
 pub returns-in_err-asked-clause-since : goal.returns-in_err-asked-clause-since
 returns-in_err-asked-clause-since g c =
     let none : c.self.inside.tunnel.known.fault ≡ None = none_inside _ _ c.self.view_is c.requires.stands in
-    rw (← c.self.view_is) (call_since c.leave.result none c.leave.ensures.grows c.leave.ensures.script (record { tasks = refl; devices = refl; turns = refl; workers = refl; missed = refl }) c.leave.ensures.count (c.leave.ensures.cause none) c.leave.ensures.stands c.leave.ensures.fault)
+    rw (← c.self.view_is) (call_since c.leave.result none c.leave.ensures.grows c.leave.ensures.script (record { tasks = refl; devices = refl; turns = refl; workers = refl; missed = refl }) (c.leave.ensures.counts none) c.leave.ensures.stands c.leave.ensures.fault)
 
 pub returns-then-not-asked-clause-since : goal.returns-then-not-asked-clause-since
 returns-then-not-asked-clause-since g c =
     let none : c.self.inside.tunnel.known.fault ≡ None = none_inside _ _ c.self.view_is c.requires.stands in
-    rw (← c.self.view_is) (call_since c.leave.result none c.leave.ensures.grows c.leave.ensures.script (record { tasks = refl; devices = refl; turns = refl; workers = refl; missed = refl }) c.leave.ensures.count (c.leave.ensures.cause none) c.leave.ensures.stands c.leave.ensures.fault)
+    rw (← c.self.view_is) (call_since c.leave.result none c.leave.ensures.grows c.leave.ensures.script (record { tasks = refl; devices = refl; turns = refl; workers = refl; missed = refl }) (c.leave.ensures.counts none) c.leave.ensures.stands c.leave.ensures.fault)
 
 pub returns-clause-since : goal.returns-clause-since
 returns-clause-since g c =
     let none : c.self.inside.tunnel.known.fault ≡ None = none_inside _ _ c.self.view_is c.requires.stands in
-    rw (← c.self.view_is) (since_again (call_since c.leave.result none c.leave.ensures.grows c.leave.ensures.script (closing_run c.self.inside.tunnel.link c.leave.new.self.link c.self.inside.tunnel.known c.leave.new.self.known c.self.inside.work c.asked_to_leave.new.self c.self.inside.tunnel.known.fault c.leave.new.self.known.fault c.self.inside.missed c.asked_to_leave.ensures.rest) c.leave.ensures.count (c.leave.ensures.cause none) c.leave.ensures.stands c.leave.ensures.fault) (still_since c.is_over-is_over.ensures.link (c.is_over-is_over.ensures.stands ∙ sym c.in_ok-asked.ensures.stands) c.is_over-is_over.ensures.run))
+    rw (← c.self.view_is) (since_again (call_since c.leave.result none c.leave.ensures.grows c.leave.ensures.script (closing_run c.self.inside.tunnel.link c.leave.new.self.link c.self.inside.tunnel.known c.leave.new.self.known c.self.inside.work c.asked_to_leave.new.self c.self.inside.tunnel.known.fault c.leave.new.self.known.fault c.self.inside.missed c.asked_to_leave.ensures.rest) (c.leave.ensures.counts none) c.leave.ensures.stands c.leave.ensures.fault) (still_since c.is_over-is_over.ensures.link (c.is_over-is_over.ensures.stands ∙ sym c.in_ok-asked.ensures.stands) c.is_over-is_over.ensures.run))
 
 pub returns-then-not-asked-clause-heard : goal.returns-then-not-asked-clause-heard
 returns-then-not-asked-clause-heard g c = rw (← c.self.view_is) (hears_none _ _ _ c.in_ok-asked.ensures.adds (λ old added h. h.nothing))

@@ -16,7 +16,7 @@ use Rattle.tunnel_link.specs.Adds.{HasActed}
 use Rattle.hub_core.proofs.Polls.{polls_once}
 use Rattle.hub_core.proofs.InTime.{polls_wait}
 use Rattle.hub_core.proofs.Came.{polls_come}
-use Rattle.hub_core.proofs.Since.{call_since, ended_since, own_fails}
+use Rattle.hub_core.proofs.Since.{call_since, ended_since, own_counts}
 use Rattle.hub_core.proofs.hub.Hub.poll.Goals as goal
 
 pub invariant_of-self : goal.invariant_of-self
@@ -56,19 +56,19 @@ invariant_of-self-in-None g c =
 pub returns-in_err-came-clause-since : goal.returns-in_err-came-clause-since
 returns-in_err-came-clause-since g c =
     let none : c.self.inside.tunnel.known.fault ≡ None = none_inside _ _ c.self.view_is c.requires.stands in
-    rw (← c.self.view_is) (call_since c.poll.result none c.poll.ensures.grows c.poll.ensures.script (record { tasks = refl; devices = refl; turns = refl; workers = refl; missed = refl }) c.poll.ensures.count (c.poll.ensures.cause none) c.poll.ensures.stands c.poll.ensures.fault)
+    rw (← c.self.view_is) (call_since c.poll.result none c.poll.ensures.grows c.poll.ensures.script (record { tasks = refl; devices = refl; turns = refl; workers = refl; missed = refl }) (c.poll.ensures.counts none) c.poll.ensures.stands c.poll.ensures.fault)
 
 pub returns-in-Some-clause-since : goal.returns-in-Some-clause-since
 returns-in-Some-clause-since g c =
     let none : c.self.inside.tunnel.known.fault ≡ None = none_inside _ _ c.self.view_is c.requires.stands in
     let own : EndsSo c.take_in-polled.new.work c.self.inside.met c.ending.new.met c.in_ok-came.came.what c.taken.result (Some c.in-Some.fault) =
     subst (λ (o : Option HubFault). EndsSo c.take_in-polled.new.work c.self.inside.met c.ending.new.met c.in_ok-came.came.what c.taken.result o) c.in-Some.is c.ending.ensures in
-    rw (← c.self.view_is) (rw c.fail.ensures.link (ended_since c.in-Some.fault none c.poll.ensures.grows c.poll.ensures.script (same_run _ _ _ _ c.self.inside.work c.take_in-polled.new.work _ _ _ c.take_in-polled.ensures.books) c.poll.ensures.count (own_fails _ _ _ _ _ c.in-Some.fault _ _ own) c.fail.ensures.fault))
+    rw (← c.self.view_is) (rw c.fail.ensures.link (ended_since c.in-Some.fault none c.poll.ensures.grows c.poll.ensures.script (same_run _ _ _ _ c.self.inside.work c.take_in-polled.new.work _ _ _ c.take_in-polled.ensures.books) (c.in_ok-came.ensures.counts none ∙ own_counts _ _ _ _ _ c.in-Some.fault _ own) c.fail.ensures.fault))
 
 pub returns-in-None-clause-since : goal.returns-in-None-clause-since
 returns-in-None-clause-since g c =
     let none : c.self.inside.tunnel.known.fault ≡ None = none_inside _ _ c.self.view_is c.requires.stands in
-    rw (← c.self.view_is) (call_since c.poll.result none c.poll.ensures.grows c.poll.ensures.script (same_run _ _ _ _ c.self.inside.work c.take_in-polled.new.work _ _ _ c.take_in-polled.ensures.books) c.poll.ensures.count (c.poll.ensures.cause none) c.poll.ensures.stands c.poll.ensures.fault)
+    rw (← c.self.view_is) (call_since c.poll.result none c.poll.ensures.grows c.poll.ensures.script (same_run _ _ _ _ c.self.inside.work c.take_in-polled.new.work _ _ _ c.take_in-polled.ensures.books) (c.poll.ensures.counts none) c.poll.ensures.stands c.poll.ensures.fault)
 
 pub returns-in-None-clause-heard : goal.returns-in-None-clause-heard
 returns-in-None-clause-heard g c = rw (← c.self.view_is) (hears_poll _ _ c.in_ok-came.came _ c.in_ok-came.ensures.adds c.take_in-polled.ensures.heard)

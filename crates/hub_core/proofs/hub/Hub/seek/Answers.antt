@@ -24,7 +24,7 @@ returns-then-is_closing-clause-since g c = since_itself
 pub returns-clause-since : goal.returns-clause-since
 returns-clause-since g c =
     let none : c.self.inside.tunnel.known.fault ≡ None = none_inside _ _ c.self.view_is c.requires.stands in
-    rw (← c.self.view_is) (call_since c.seek-sought.result none c.seek-sought.ensures.grows c.seek-sought.ensures.script (record { tasks = refl; devices = refl; turns = refl; workers = refl; missed = refl }) c.seek-sought.ensures.count (c.seek-sought.ensures.cause none) c.seek-sought.ensures.stands c.seek-sought.ensures.fault)
+    rw (← c.self.view_is) (call_since c.seek-sought.result none c.seek-sought.ensures.grows c.seek-sought.ensures.script (record { tasks = refl; devices = refl; turns = refl; workers = refl; missed = refl }) (c.seek-sought.ensures.counts none) c.seek-sought.ensures.stands c.seek-sought.ensures.fault)
 
 pub returns-clause-heard : goal.returns-clause-heard
 returns-clause-heard g c = rw (← c.self.view_is) (seeks_heard _ _ c.seek-sought.result c.seek-sought.ensures.adds)

@@ -78,12 +78,12 @@ returns-in-Lost-clause-since g c = rw (← c.self.view_is) (still_since refl ref
 pub returns-in_err-put-in-Unput-clause-since : goal.returns-in_err-put-in-Unput-clause-since
 returns-in_err-put-in-Unput-clause-since g c =
     let none : c.self.inside.tunnel.known.fault ≡ None = sym c.fault.ensures ∙ c.in_default.is in
-    rw (← c.self.view_is) (call_since c.put.result none c.put.ensures.grows c.put.ensures.script (same_run _ _ _ _ c.self.inside.work c.telegram_put.new.self _ _ _ (of_books c.self.inside.work c.telegram_put.new.self c.telegram_put.ensures.books)) c.put.ensures.count (c.put.ensures.cause none) c.put.ensures.stands c.put.ensures.fault)
+    rw (← c.self.view_is) (call_since c.put.result none c.put.ensures.grows c.put.ensures.script (same_run _ _ _ _ c.self.inside.work c.telegram_put.new.self _ _ _ (of_books c.self.inside.work c.telegram_put.new.self c.telegram_put.ensures.books)) (c.put.ensures.counts none) c.put.ensures.stands c.put.ensures.fault)
 
 pub returns-in_ok-put-in-Unput-clause-since : goal.returns-in_ok-put-in-Unput-clause-since
 returns-in_ok-put-in-Unput-clause-since g c =
     let none : c.self.inside.tunnel.known.fault ≡ None = sym c.fault.ensures ∙ c.in_default.is in
-    rw (← c.self.view_is) (call_since c.put.result none c.put.ensures.grows c.put.ensures.script (same_run _ _ _ _ c.self.inside.work c.telegram_put.new.self _ _ _ (of_books c.self.inside.work c.telegram_put.new.self c.telegram_put.ensures.books)) c.put.ensures.count (c.put.ensures.cause none) c.put.ensures.stands c.put.ensures.fault)
+    rw (← c.self.view_is) (call_since c.put.result none c.put.ensures.grows c.put.ensures.script (same_run _ _ _ _ c.self.inside.work c.telegram_put.new.self _ _ _ (of_books c.self.inside.work c.telegram_put.new.self c.telegram_put.ensures.books)) (c.put.ensures.counts none) c.put.ensures.stands c.put.ensures.fault)
 
 pub returns-in_ok-put-in-Unput-clause-heard : goal.returns-in_ok-put-in-Unput-clause-heard
 returns-in_ok-put-in-Unput-clause-heard g c =

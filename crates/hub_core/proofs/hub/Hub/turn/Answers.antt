@@ -54,7 +54,7 @@ returns-in-Some-clause-since g c = since_itself
 pub returns-in_err-put-in-Puts-clause-since : goal.returns-in_err-put-in-Puts-clause-since
 returns-in_err-put-in-Puts-clause-since g c =
     let none : c.self.inside.tunnel.known.fault ≡ None = sym c.fault.ensures ∙ c.in_default.is in
-    rw (← c.self.view_is) (call_since c.put.result none c.put.ensures.grows c.put.ensures.script (work_run _ _ _ _ c.self.inside.work c.turn.new.self _ _ _ c.turn.ensures.run) c.put.ensures.count (c.put.ensures.cause none) c.put.ensures.stands c.put.ensures.fault)
+    rw (← c.self.view_is) (call_since c.put.result none c.put.ensures.grows c.put.ensures.script (work_run _ _ _ _ c.self.inside.work c.turn.new.self _ _ _ c.turn.ensures.run) (c.put.ensures.counts none) c.put.ensures.stands c.put.ensures.fault)
 
 pub returns-in-Did-clause-since : goal.returns-in-Did-clause-since
 returns-in-Did-clause-since g c =
@@ -63,7 +63,7 @@ returns-in-Did-clause-since g c =
 pub returns-in_ok-put-in-Puts-clause-since : goal.returns-in_ok-put-in-Puts-clause-since
 returns-in_ok-put-in-Puts-clause-since g c =
     let none : c.self.inside.tunnel.known.fault ≡ None = sym c.fault.ensures ∙ c.in_default.is in
-    rw (← c.self.view_is) (call_since c.put.result none c.put.ensures.grows c.put.ensures.script (work_run _ _ _ _ c.self.inside.work c.turn.new.self _ _ _ c.turn.ensures.run) c.put.ensures.count (c.put.ensures.cause none) c.put.ensures.stands c.put.ensures.fault)
+    rw (← c.self.view_is) (call_since c.put.result none c.put.ensures.grows c.put.ensures.script (work_run _ _ _ _ c.self.inside.work c.turn.new.self _ _ _ c.turn.ensures.run) (c.put.ensures.counts none) c.put.ensures.stands c.put.ensures.fault)
 
 pub returns-in_ok-put-in-Puts-clause-heard : goal.returns-in_ok-put-in-Puts-clause-heard
 returns-in_ok-put-in-Puts-clause-heard g c =

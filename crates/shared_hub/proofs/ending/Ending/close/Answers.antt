@@ -26,8 +26,8 @@ returns-clause-tells g c = λ workers seats.
       closed = λ fine. rw (log_is, link_is) (c.requires.closed fine);
     }
 
-pub returns-clause-caused : goal.returns-clause-caused
-returns-clause-caused g c = λ before was. rw (c.requires.fault, c.close-link.ensures.link) was
+pub returns-clause-counts : goal.returns-clause-counts
+returns-clause-counts g c = λ before was. rw (c.requires.fault, c.close-link.ensures.link) was
 
 pub returns-clause-log : goal.returns-clause-log
 returns-clause-log g c = ap reverse c.close-link.ensures.log ∙ reverse-reverse c.args.self.hub.log

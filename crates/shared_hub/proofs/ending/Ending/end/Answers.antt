@@ -13,13 +13,13 @@ returns-in-Ok-clause-tells g c = λ workers seats.
     told_for workers _ _ _ _ _ _ _ _ _ c.closes.ensures.since.run.tasks c.closes.ensures.since.run.devices c.closes.ensures.since.run.turns
     (c.close-in-Ok.ensures.tells workers (subst (λ (l : List LogEntry). IsOfWorkers workers l) (sym c.closes.ensures.log) seats))
 
-pub returns-in-Ok-clause-caused : goal.returns-in-Ok-clause-caused
-returns-in-Ok-clause-caused g c = λ before was. c.close-in-Ok.ensures.caused before (c.closes.ensures.since.caused before was)
+pub returns-in-Ok-clause-counts : goal.returns-in-Ok-clause-counts
+returns-in-Ok-clause-counts g c = λ before was. c.close-in-Ok.ensures.counts before (c.closes.ensures.since.counts before was)
 
 pub returns-in-Err-clause-tells : goal.returns-in-Err-clause-tells
 returns-in-Err-clause-tells g c = λ workers seats.
     told_for workers _ _ _ _ _ _ _ _ _ c.closes.ensures.since.run.tasks c.closes.ensures.since.run.devices c.closes.ensures.since.run.turns
     (c.close-in-Err.ensures.tells workers (subst (λ (l : List LogEntry). IsOfWorkers workers l) (sym c.closes.ensures.log) seats))
 
-pub returns-in-Err-clause-caused : goal.returns-in-Err-clause-caused
-returns-in-Err-clause-caused g c = λ before was. c.close-in-Err.ensures.caused before (c.closes.ensures.since.caused before was)
+pub returns-in-Err-clause-counts : goal.returns-in-Err-clause-counts
+returns-in-Err-clause-counts g c = λ before was. c.close-in-Err.ensures.counts before (c.closes.ensures.since.counts before was)

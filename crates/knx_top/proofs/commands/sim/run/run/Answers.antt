@@ -7,10 +7,11 @@ use Rattle.line_model.specs.declared.group.GroupTurn.{GroupTurn}
 use Rattle.line_model.specs.Log.{Job}
 use Rattle.call_parts.specs.Jobs.{seen_job}
 use Rattle.call_parts.specs.Options as asked
-use Rattle.knx_top.specs.Ran.{FaultsOfLine, log_in}
+use Rattle.hub_core.specs.Commissioned.{log_of}
+use Rattle.knx_top.specs.Ran.{FaultsOfLine}
 use Rattle.bus_sim.proofs.New.{new_line}
 use Rattle.knx_top.proofs.Undisturbed.{Laws}
-use Rattle.knx_top.proofs.Driven.{driven, faults_last, jobs_seen, still_one}
+use Rattle.knx_top.proofs.Driven.{counts_on_line, driven, jobs_seen, still_one}
 use Rattle.knx_top.proofs.Shows.{fault_so, runs_so, still_there}
 use Rattle.knx_top.specs.commands.Sim.{ShowsRun}
 use Rattle.knx_top.specs.Watched.{TellsWatcher}
@@ -24,15 +25,15 @@ pub end_of_run-requires : goal.end_of_run-requires
 end_of_run-requires g c =
     let jobs : List Job = map seen_job c.args.order.plans in
     subst (λ (devices : List (IndAddr × Option Image)). All (λ (d : IndAddr × Option Image). IsSome ((world c.commission-line.result.0.run).devices d.0.raw)) devices) (sym c.as_slice.ensures)
-    (still_there jobs c.args.order.line.run c.commission-line.result.0.run (log_in c.commission-line.result.1) c.args.order.devices c.requires.one c.requires.new c.commission-line.ensures.commissioned.grows
+    (still_there jobs c.args.order.line.run c.commission-line.result.0.run (log_of c.commission-line.result.1) c.args.order.devices c.requires.one c.requires.new c.commission-line.ensures.commissioned.grows
     (c.commission-line.ensures.commissioned.tells.right jobs (jobs_seen c.args.order.plans) c.requires.good) c.requires.devices)
 
 pub returns-clause-runs : goal.returns-clause-runs
 returns-clause-runs g c = λ commission is options.
     let line = c.commission-line.result.0 in
     let report = c.commission-line.result.1 in
-    let cause : FaultsOfLine (Some report) line = faults_last report.fault report c.args.order.line.faults c.args.order.line line c.requires.sound c.requires.new (still_one c.args.order.line.run line.run c.requires.one c.commission-line.ensures.commissioned.grows) c.keeps-2.ensures.faults
-    c.commission-line.ensures.commissioned.cause in
+    let counts : FaultsOfLine (Some report) line = counts_on_line report c.args.order.line line c.requires.sound c.requires.new (still_one c.args.order.line.run line.run c.requires.one c.commission-line.ensures.commissioned.grows) c.keeps-2.ensures.faults
+    c.commission-line.ensures.commissioned.counts in
     let workers : ℕ = c.count.result in
     let log : Bool = c.args.options.now.log in
     let laws : Laws = record {
@@ -49,7 +50,7 @@ returns-clause-runs g c = λ commission is options.
     } in
     runs_so commission c.args.sim.now line report c.args.order.jobs c.len-turn_count.result c.args.order.devices log c.end_of_run.result
     (driven laws commission c.args.order workers c.args.order.turns line (length line.run.events) report is (c.count.ensures.value ∙ c.workers.ensures ∙ ap (λ (o : asked.SimOptions). asked.workers_of o) (sym options) ∙ sym is.workers) (is.prepared.turns ∙ sym is.turns) c.requires.one c.commission-line.ensures.commissioned.grows c.commission-line.ensures.commissioned.script c.keeps-2.ensures.fresh c.keeps-2.ensures.legal c.keeps-2.ensures.follows c.requires.good c.commission-line.ensures.commissioned.tells
-    c.commission-line.ensures.tries cause)
+    c.commission-line.ensures.tries counts)
     is.prepared.devices (c.len-turn_count.ensures ∙ ap (λ (ts : List GroupTurn). length ts) (is.prepared.turns ∙ sym is.turns)) (ap (λ (o : asked.SimOptions). o.log) (sym options))
     (subst (λ (devices : List (IndAddr × Option Image)). ShowsRun line.run report c.args.order.jobs c.len-turn_count.result devices log c.end_of_run.result) c.as_slice.ensures c.end_of_run.ensures)
 
@@ -57,9 +58,9 @@ pub returns-clause-link : goal.returns-clause-link
 returns-clause-link g c =
     let line = c.commission-line.result.0 in
     let report = c.commission-line.result.1 in
-    let cause : FaultsOfLine (Some report) line = faults_last report.fault report c.args.order.line.faults c.args.order.line line c.requires.sound c.requires.new (still_one c.args.order.line.run line.run c.requires.one c.commission-line.ensures.commissioned.grows) c.keeps-2.ensures.faults
-    c.commission-line.ensures.commissioned.cause in
-    fault_so line.run report c.args.order.jobs c.len-turn_count.result c.as_slice.result.now c.args.options.now.log c.end_of_run.result line c.end_of_run.ensures cause
+    let counts : FaultsOfLine (Some report) line = counts_on_line report c.args.order.line line c.requires.sound c.requires.new (still_one c.args.order.line.run line.run c.requires.one c.commission-line.ensures.commissioned.grows) c.keeps-2.ensures.faults
+    c.commission-line.ensures.commissioned.counts in
+    fault_so line.run report c.args.order.jobs c.len-turn_count.result c.as_slice.result.now c.args.options.now.log c.end_of_run.result line c.end_of_run.ensures counts
 
 pub returns-clause-watched : goal.returns-clause-watched
 returns-clause-watched g c = tells_shown c.commission-line.result.0.run c.commission-line.result.1 c.args.order.jobs c.len-turn_count.result c.as_slice.result.now c.args.options.now.log (TellsWatcher (devices_in c.args.order.plans) c.args.options.now.quiet) _ _ c.end_of_run.result c.end_of_run.ensures c.commission-line.ensures.watched

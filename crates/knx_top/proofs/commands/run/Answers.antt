@@ -6,7 +6,7 @@ use Rattle.knx_top.proofs.commands.Assigns.{assign_no_run, assign_sim_no_run}
 use Rattle.knx_top.proofs.commands.Decodes.{frame_no_run}
 use Rattle.knx_top.proofs.commands.Finds.{find_no_run}
 use Rattle.call_parts.proofs.Projects.{project_no_run}
-use Rattle.knx_top.proofs.call.run.Goals as goal
+use Rattle.knx_top.proofs.commands.run.Goals as goal
 
 pub returns-in-Check-clause-does : goal.returns-in-Check-clause-does
 returns-in-Check-clause-does g c = rw c.in-Check.is (c.call.ensures.told, record { line = refl; report = project_no_run IsCountsText _ _ _ c.call.result c.call.ensures.told })
