@@ -7,8 +7,8 @@ LONGEST = 4194304
 SIZES = {1: 0, 2: 1, 3: 2, 4: 3, 5: 4, 6: 5, 7: 6, 8: 7, 16: 8, 24: 9, 32: 10, 48: 11, 64: 12, 80: 13, 112: 14}
 WHYS = {1: "NotText", 2: "LongLine", 3: "UnknownWord", 4: "BadAddress", 5: "BadNumber", 6: "BadName", 7: "MissingWord", 8: "ExtraWord",
         9: "DuplicateDevice", 10: "DuplicateGroup", 11: "UnknownGroup", 12: "UnknownModel", 13: "DuplicateObject", 14: "UnknownObject",
-        15: "DuplicateLink", 16: "UnknownParameter", 17: "OutOfRange", 18: "SizeDiffers", 19: "TooMany", 20: "NoDevice", 21: "NotBuilt",
-        22: "NotLinked", 23: "BadVersion"}
+        15: "DuplicateLink", 16: "UnknownParameter", 17: "OutOfRange", 18: "SizeDiffers", 19: "TooMany", 20: "NoDevice", 22: "NotLinked",
+        23: "BadVersion"}
 
 
 class Refused(Exception):
