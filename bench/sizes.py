@@ -5,11 +5,15 @@
 It makes the same texts at each call, runs the program on each of them, and prints the best wall clock in milliseconds on all processors
 and on one, their ratio, the ratio of the first to a plain pass over the octets of the same files (`wc -l`), and the greatest resident set
 in MiB. The empty project's row, which is the start and end of the process, stands on top. After each family comes the growth: the
-exponent g of time ~ size**g between the two greatest sizes, the time of the empty project taken off.
+exponent g of time ~ size**g between the two greatest sizes, the time of the empty project taken off. A family that says the same as
+another one is told with the ratio of its octets and of its times on all processors to those of the other, size by size.
 
 Families:
     one         one device: 255 objects, up to 2,047 links, then `flags` and `param` lines to the end
     devices     255 devices (fewer where the size holds fewer), the text shared among them: objects, parameters, then links
+    devices-2   what `devices` says at this size, as a text of version 2, which has fewer octets: the same groups, devices, parameters
+                and links, but each object's groups stand ascending, up to 32 on a `link` line, with a `send` line where the least of
+                them isn't the one that sends
     groups      `ga` lines with names of 32 letters, then `project` lines
     catalogue   a catalogue of the size, with models of 16 parameters and 4 objects, and a small project
 """
@@ -106,6 +110,33 @@ def devices(size):
     return text.octets(), SMALL
 
 
+GROUPS_OF_A_LINE = 32
+
+
+def gathered(linked):
+    """A device's links in version 2, of each object's groups in the order of version 1, where the first one sends."""
+    for (device, n), found in sorted(linked.items()):
+        ascending = sorted(found, key=lambda to: [int(part) for part in to.split("/")])
+        for first in range(0, len(ascending), GROUPS_OF_A_LINE):
+            yield f"link {device} {n} " + " ".join(ascending[first:first + GROUPS_OF_A_LINE])
+        if ascending[0] != found[0]:
+            yield f"send {device} {n} {found[0]}"
+
+
+def devices_in_version_2(size):
+    project, models = devices(size)
+    lines, linked = ["version 2"], {}
+    for line in project.decode().splitlines():
+        if line.startswith("link "):
+            _, device, n, to = line.split()
+            linked.setdefault((device, n), []).append(to)
+        elif line.strip("#"):
+            # a device's links end where the next device begins
+            lines += [*gathered(linked), line]
+            linked = {}
+    return "\n".join([*lines, *gathered(linked), ""]).encode(), models
+
+
 def groups(size):
     text, k = Text(size), 1
     text.add("device 1.1.5 dim")
@@ -128,7 +159,10 @@ def catalogue(size):
     return project.encode(), b"".join(models) + b"#" * (size - used - 1) + b"\n"
 
 
-FAMILIES = {"one": one, "devices": devices, "groups": groups, "catalogue": catalogue}
+FAMILIES = {"one": one, "devices": devices, "devices-2": devices_in_version_2, "groups": groups, "catalogue": catalogue}
+
+# A family that says the same as another one.
+SAME_AS = {"devices-2": "devices"}
 
 
 def seconds_of(words, folder):
@@ -182,6 +216,11 @@ def growth(points, base):
     return f"{math.log((more - base) / (less - base)) / math.log(great / small):.2f}"
 
 
+def ratios(points, others, place):
+    """What octets or seconds are of another family's, size by size."""
+    return " ".join(f"{of[place] / other[place]:.2f}" for of, other in zip(points, others))
+
+
 def main():
     arguments = argparse.ArgumentParser(description=__doc__, formatter_class=argparse.RawDescriptionHelpFormatter)
     root = os.path.dirname(os.path.dirname(os.path.abspath(__file__)))
@@ -199,15 +238,21 @@ def main():
             return name
 
         base = row("empty", 0, "check", [program, "check", put("empty.txt", b"")], ["empty.txt"], folder, asked.runs)
+        measured = {}
         for family in asked.only.split(","):
-            grown = {"check": [], "tables": []}
+            grown = measured[family] = {"check": [], "tables": []}
             for size in sorted(map(int, asked.sizes.split(","))):
                 project, models = FAMILIES[family](size)
+                octets = len(project) if family in SAME_AS else size
                 files = [put(f"{family}-{size}.txt", project), put(f"{family}-{size}.toml", models)]
                 for command, points in grown.items():
                     words = [program, command, files[0], "catalogue=" + files[1]]
-                    points.append((size, row(family, size, command, words, files, folder, asked.runs)))
+                    points.append((octets, row(family, octets, command, words, files, folder, asked.runs)))
             print(f"{family:10} growth: " + ", ".join(f"{command} {growth(points, base)}" for command, points in grown.items()))
+            if (other := SAME_AS.get(family)) in measured:
+                fewer = ratios(grown["check"], measured[other]["check"], 0)
+                times = [f"{command} {ratios(points, measured[other][command], 1)}" for command, points in grown.items()]
+                print(f"{family:10} of {other}: octets {fewer}, " + ", ".join(times))
 
 
 if __name__ == "__main__":
