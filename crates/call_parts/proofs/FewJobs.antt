@@ -12,7 +12,7 @@ use Rattle.knx_model.specs.Rules.{devices_of, first_broken}
 use Rattle.project_check.proofs.Limits.{few_devices}
 use Rattle.project_check.proofs.Totals.{devices_counted}
 use Rattle.call_parts.specs.Jobs.{ArePlanned, IsPlanned, load_of, seen_job}
-use Rattle.call_parts.specs.Options.{most_jobs}
+use Rattle.call_parts.specs.OptionValues.{most_jobs}
 
 -- one for each device of a project that breaks no rule
 pub loads_few : (project : Installation) (devices : List IndAddr) → first_broken project.catalogue project.statements ≡ None → IsPermutation (devices_of project.statements) devices → length (map load_of devices) ≤ most_jobs

@@ -1,5 +1,6 @@
 pub mod Fronts
 pub mod Host
+pub mod OptionValues
 pub mod Options
 pub mod Names
 pub mod Input

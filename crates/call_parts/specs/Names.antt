@@ -1,10 +1,8 @@
--- Words, options and addresses, as the definitions see them.
+-- Words and addresses, as the definitions see them.
 use Rattle.std.specs.Prelude.{ℕ, List, Option}
 use Rattle.line_model.specs.Dialled.{Address}
 use Rattle.std.specs.Borrow.{Bor}
 use Rattle.call_parts.specs.declared.host.GatewayAddress.{GatewayAddress}
-use Rattle.call_parts.specs.declared.options.SimOptions.{SimOptions}
-use Rattle.call_parts.specs.Options as asked
 use Rattle.std.specs.Option.{option_map}
 
 abbrev pub the_word : Bor (List ℕ) → List ℕ
@@ -18,6 +16,3 @@ named name = option_map the_word name
 
 abbrev pub address_of : GatewayAddress → Address
 address_of at = record { host = at.host; port = at.port }
-
-abbrev pub options_of : SimOptions → asked.SimOptions
-options_of options = record { catalogue = named options.catalogue; log = options.log; quiet = options.quiet; workers = options.workers; jobs = options.jobs.items }

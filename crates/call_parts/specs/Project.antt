@@ -9,7 +9,8 @@ use Rattle.knx_model.specs.declared.catalogue.model.NamedModel.{NamedModel}
 use Rattle.call_parts.specs.declared.project.ProjectNames.{ProjectNames}
 use Rattle.call_parts.specs.declared.project.ProjectTexts.{ProjectTexts}
 use Rattle.call_parts.specs.declared.project.ReadProject.{ReadProject}
-use Rattle.call_parts.specs.Options.{SimOptions, project_options}
+use Rattle.call_parts.specs.declared.options.SimOptions.{SimOptions}
+use Rattle.call_parts.specs.Options.{project_options}
 use Rattle.call_words.specs.declared.stop.Stop.{Stop}
 use Rattle.call_parts.specs.Ending.{StopsFor, TellsText}
 use Rattle.call_parts.specs.Stops.{catalogue_refused, project_in, rule_broken, text_refused}

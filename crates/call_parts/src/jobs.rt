@@ -3,7 +3,7 @@
 ghost use Rattle.std.specs.Prelude.{◌≡◌, ◌≤◌, IfOk, length, map};
 ghost use Rattle.std.specs.List.{list_all};
 ghost use Rattle.call_parts.specs.Jobs.{AreJobs, ArePlanned, IsPlanned, LoadsEach, PlansImage, load_of, seen_job};
-ghost use Rattle.call_parts.specs.Options.{most_jobs};
+ghost use Rattle.call_parts.specs.OptionValues.{most_jobs};
 ghost use Rattle.call_parts.specs.Stops.{is_known};
 ghost use Rattle.knx_model.specs.Device.{Fits};
 ghost use Rattle.table_compiler.specs.Images.{AreImagesOf};

@@ -8,6 +8,7 @@ mod host;
 mod identity;
 mod input;
 mod jobs;
+mod option_values;
 mod options;
 mod project;
 mod searched;
@@ -19,7 +20,8 @@ pub use host::{GatewayAddress, address_in, are_digits};
 pub use identity::{about_gateway, own_endpoint};
 pub use input::{Reading, read_after, read_named};
 pub use jobs::{all_planned, are_known, images_for, jobs_of};
-pub use options::{SimOptions, behind, from_1_to, project_options, sim_options};
+pub use option_values::{FileName, JobWords, Workers, from_1_to};
+pub use options::{SimOptions, behind, project_options, sim_options};
 pub use project::{
     ProjectNames, ProjectTexts, models_in, project_in, project_names, read_in, read_of,
     read_project_texts, refusal, script_in, sound_in, unknown_job,

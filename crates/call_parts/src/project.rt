@@ -50,7 +50,7 @@ pub fn project_names(words: &[String]) -> Option<ProjectNames<'_>>
     let options = project_options(others)?;
     Some(ProjectNames {
         project: project.as_str(),
-        catalogue: options.catalogue,
+        catalogue: options.catalogue(),
     })
 }
 

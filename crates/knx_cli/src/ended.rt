@@ -1,12 +1,11 @@
 //! How the program ends.
 
-ghost use Rattle.std.specs.Prelude.{◌≡◌, ◌≤◌, ◌+◌, ℕ, IfErr, IfOk, List, None, false, length, map, string_bytes};
+ghost use Rattle.std.specs.Prelude.{◌≡◌, ◌≤◌, ◌+◌, ℕ, IfErr, IfOk, List, None, Option, false, length, map, string_bytes};
 ghost use Rattle.call_words.specs.declared.stop.Stop.TheVariants.{NoMemory as Wanting};
 ghost use Rattle.knx_model.specs.Outside.{one_more};
 ghost use Rattle.call_words.specs.Statuses.{status_number};
 ghost use Rattle.call_parts.specs.declared.ending.End.TheVariants.{Stops};
-ghost use Rattle.knx_top.specs.Call.{Does, begins_units, files_of, reaches_network};
-ghost use Rattle.knx_top.specs.Command.{asked};
+ghost use Rattle.knx_top.specs.commands.{WordsAsk, Command, Does, begins_units, files_of, reaches_network};
 ghost use Rattle.call_parts.specs.Ending.{Replies};
 ghost use Rattle.knx_top.specs.Watched.{TellsOfRun, WhereRun};
 ghost use Rattle.line_model.specs.Watched.{watch_in};
@@ -54,13 +53,13 @@ pub fn status_of<
     last: &mut Option<Report>,
 ) -> u8
     ensures numbered { result ≡ status_number (status_of result) }
-    // what the command of the words does, row by row of `Does`
-    ensures does { IfOk words.now (λ words. Does (asked (map string_bytes words.items)) (record { files = F.now files.old; line = sim.old; units = units.old; dialer = D.now dial.old; report = None }) (record { files = F.now files.new; line = sim.new; units = units.new; dialer = D.now dial.new; report = last.new }) (Replies (K.now out.old) (K.now out.new) (status_of result))) }
-    ensures undialled { IfOk words.now (λ words. reaches_network (asked (map string_bytes words.items)) ≡ false → dial.new ≡ dial.old) }
-    ensures units { IfOk words.now (λ words. begins_units (asked (map string_bytes words.items)) ≡ false → units.new ≡ units.old) }
-    ensures watched { IfOk words.now (λ words. WhereRun (TellsOfRun (asked (map string_bytes words.items)) (F.now files.old).file) last.new (watch_in W.watch watch.old) (watch_in W.watch watch.new)) }
+    // what the words ask for is done, row by row of `Does`
+    ensures does { IfOk words.now (λ words. (command : Option Command) → WordsAsk (map string_bytes words.items) command → Does command (record { files = F.now files.old; line = sim.old; units = units.old; dialer = D.now dial.old; report = None }) (record { files = F.now files.new; line = sim.new; units = units.new; dialer = D.now dial.new; report = last.new }) (Replies (K.now out.old) (K.now out.new) (status_of result))) }
+    ensures undialled { IfOk words.now (λ words. (command : Option Command) → WordsAsk (map string_bytes words.items) command → reaches_network command ≡ false → dial.new ≡ dial.old) }
+    ensures units { IfOk words.now (λ words. (command : Option Command) → WordsAsk (map string_bytes words.items) command → begins_units command ≡ false → units.new ≡ units.old) }
+    ensures watched { IfOk words.now (λ words. (command : Option Command) → WordsAsk (map string_bytes words.items) command → WhereRun (TellsOfRun command (F.now files.old).file) last.new (watch_in W.watch watch.old) (watch_in W.watch watch.new)) }
     ensures files { (name : List ℕ) → (F.now files.new).file name ≡ (F.now files.old).file name }
-    ensures reads { IfOk words.now (λ words. (F.now files.new).reads ≤ (F.now files.old).reads + length (files_of (asked (map string_bytes words.items)))) }
+    ensures reads { IfOk words.now (λ words. (command : Option Command) → WordsAsk (map string_bytes words.items) command → (F.now files.new).reads ≤ (F.now files.old).reads + length (files_of command)) }
     // where memory is wanting for the words, that is told, and nothing else is done
     ensures untouched { IfErr words.now (λ _. (files.new ≡ files.old) × (sim.new ≡ sim.old) × (units.new ≡ units.old) × (dial.new ≡ dial.old) × (watch.new ≡ watch.old) × (last.new ≡ last.old)) }
     ensures wanting { IfErr words.now (λ _. Replies (K.now out.old) (K.now out.new) (status_of result) (Stops (Wanting tt))) }

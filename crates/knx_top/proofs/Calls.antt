@@ -1,20 +1,27 @@
--- A whole call: what its command does, with what is written of its end; and what follows of that.
+-- The commands: what one does, with what is written of its end, and what follows of that. A file for each leads from what was read to how the call ends.
+pub mod Assigns
+pub mod Bigs
+pub mod Decodes
+pub mod Downloads
+pub mod Finds
+pub mod Gateways
+pub mod Migrates
+pub mod Sims
 use Rattle.std.proofs.Common.{◌≡◌, true, false, Option, Some, None, ◌⊎◌}
-use Rattle.knx_top.specs.Call.{Does, Outside, begins_run, left_in}
-use Rattle.knx_top.specs.Command.{Assign, AssignSim, Big, Check, Command, Decode, Find, Gateway, Migrate, Sim, Tables, Download}
+use Rattle.knx_top.specs.commands.{Assign, AssignSim, Big, Check, Command, Decode, Does, Download, Find, Gateway, Migrate, Outside, Sim, Tables, begins_run, left_in}
 use Rattle.call_parts.specs.declared.ending.End.{End}
 use Rattle.call_parts.specs.Ending.{Is, wanting}
-use Rattle.knx_top.proofs.commands.Assigns.{assign_sim_written, assign_written}
-use Rattle.knx_top.proofs.commands.Bigs.{made_written}
-use Rattle.knx_top.proofs.commands.Downloads.{dialled_written}
-use Rattle.knx_top.proofs.commands.Decodes.{frame_written}
-use Rattle.knx_top.proofs.commands.Finds.{find_written}
-use Rattle.knx_top.proofs.commands.Gateways.{gateway_written}
+use Rattle.knx_top.proofs.Calls.Assigns.{assign_sim_written, assign_written}
+use Rattle.knx_top.proofs.Calls.Bigs.{made_written}
+use Rattle.knx_top.proofs.Calls.Downloads.{dialled_written}
+use Rattle.knx_top.proofs.Calls.Decodes.{frame_written}
+use Rattle.knx_top.proofs.Calls.Finds.{find_written}
+use Rattle.knx_top.proofs.Calls.Gateways.{gateway_written}
 use Rattle.call_parts.proofs.Projects.{project_written}
-use Rattle.knx_top.proofs.commands.Sims.{script_written}
-use Rattle.knx_top.specs.commands.Check.{IsCountsText}
-use Rattle.knx_top.specs.commands.Migrate.{IsMigratedText}
-use Rattle.knx_top.specs.commands.Tables.{IsTablesText}
+use Rattle.knx_top.proofs.Calls.Sims.{script_written}
+use Rattle.knx_top.specs.commands.check.{IsCountsText}
+use Rattle.knx_top.specs.commands.migrate.{IsMigratedText}
+use Rattle.knx_top.specs.commands.tables.{IsTablesText}
 
 -- ---- what was done, and then written
 

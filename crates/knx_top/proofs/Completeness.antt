@@ -18,7 +18,7 @@ use Rattle.call_parts.specs.declared.input.Reading.TheVariants as read
 use Rattle.call_parts.specs.declared.ending.End.{End}
 use Rattle.call_parts.specs.declared.ending.End.TheVariants as ends
 use Rattle.call_parts.specs.Project.{ProjectWords, failed_of_project, project_tests, project_told, TellsOfProject}
-use Rattle.knx_top.specs.commands.Decode.{TellsOfFrame, octets_or_usage}
+use Rattle.knx_top.specs.commands.decode.{TellsOfFrame, octets_or_usage}
 
 -- ---- what was read
 

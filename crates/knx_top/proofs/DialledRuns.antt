@@ -21,13 +21,14 @@ use Rattle.line_model.specs.LinkStory.{IsNewLink, Story, Untold, Recorded, Full}
 use Rattle.line_model.specs.Log.{Job}
 use Rattle.knx_top.specs.Dialled.{CountsDialled, MeansOver}
 use Rattle.call_parts.specs.Jobs.{ArePlanned, seen_job}
-use Rattle.call_parts.specs.Options.{SimOptions, workers_of}
+use Rattle.call_parts.specs.declared.options.SimOptions.{SimOptions}
+use Rattle.call_parts.specs.Options.{workers_of}
 use Rattle.knx_top.specs.Ran.{HasThreeTries, IsToldOver}
 use Rattle.knx_top.specs.declared.commands.download.Ready.{Ready}
 use Rattle.knx_top.proofs.Driven.{told_of}
 use Rattle.knx_top.proofs.Meanings.{devices_mean, done_means}
 use Rattle.call_parts.specs.declared.ending.End.TheVariants as ends
-use Rattle.knx_top.specs.commands.Download.{DialledRun, Dials, Download, IsReadyFor}
+use Rattle.knx_top.specs.commands.download.{DialledRun, Dials, Download, IsReadyFor}
 
 -- ---- the dialer's counts take in the link's
 

@@ -10,8 +10,8 @@ use Rattle.line_model.specs.declared.log.Report.{Report}
 use Rattle.knx_top.specs.Complete.{IsDownloadTold, IsGatewayTold, IsValidDownload, IsValidGateway, NoneRose, gateway_texts_told, texts_told}
 use Rattle.call_parts.specs.Ending.{Replies, report_in}
 use Rattle.call_parts.specs.Input.{fault_in, failed, first_some, goes_on}
-use Rattle.knx_top.specs.commands.Download.{Dials, Download, DownloadWords, RunsDialled, download_tests, download_told, project_named}
-use Rattle.knx_top.specs.commands.Gateway.{GatewayWords, RunsGateway, Serves, Service, failed_of_gateway, gateway_tests, gateway_told}
+use Rattle.knx_top.specs.commands.download.{Dials, Download, DownloadWords, RunsDialled, download_tests, download_told, project_named}
+use Rattle.knx_top.specs.commands.gateway.{GatewayWords, RunsGateway, Serves, Service, failed_of_gateway, gateway_tests, gateway_told}
 use Rattle.call_parts.specs.Project.{failed_of_project}
 use Rattle.knx_top.specs.declared.commands.gateway.GatewayTexts.{GatewayTexts}
 use Rattle.call_parts.specs.declared.ending.End.{End}

@@ -34,7 +34,7 @@ use Rattle.line_model.specs.World.{World, Event}
 use Rattle.tunnel_link.specs.Goes.{GoesOn}
 use Rattle.knx_top.specs.Begun.{IsOrder}
 use Rattle.call_parts.specs.Jobs.{seen_job}
-use Rattle.call_parts.specs.Options.{most_jobs}
+use Rattle.call_parts.specs.OptionValues.{most_jobs}
 use Rattle.call_parts.specs.Turns.{most_turns}
 use Rattle.knx_top.specs.Ran.{CountsOnLine, HasThreeTries, IsRunOf, IsToldOver, KeepsPromises, Ran, Commission}
 use Rattle.knx_top.specs.declared.commands.sim.judge.Order.{Order}

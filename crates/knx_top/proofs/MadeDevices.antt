@@ -16,7 +16,7 @@ use Rattle.line_model.specs.StartOf.{line_of, tunnel_address, on_line_of_first, 
 use Rattle.project_check.proofs.Ascending.{any_device}
 use Rattle.call_parts.specs.Jobs.{load_of}
 use Rattle.call_parts.specs.OnLine.{address_at, on_bus}
-use Rattle.knx_top.specs.commands.Big.{BigWords, made, nothing}
+use Rattle.knx_top.specs.commands.big.{BigWords, made, nothing}
 
 -- ---- the addresses from 1.1.a on
 

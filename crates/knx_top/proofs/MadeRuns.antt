@@ -55,8 +55,8 @@ use Rattle.knx_top.specs.Ran.{Commission, Left, Ran}
 use Rattle.knx_top.specs.Shown.{AreShown, IsCase, IsNew, IsOld, IsStopped, IsShown, RunsNew}
 use Rattle.knx_top.specs.Undisturbed.{AllServed, EndsSo, IsUndisturbed}
 use Rattle.call_parts.specs.Host.{unless_zero}
-use Rattle.call_parts.specs.Options.{from_1_to}
-use Rattle.knx_top.specs.commands.Big.{BigWords, big_words, commission_made, made, nothing, start_value}
+use Rattle.call_parts.specs.OptionValues.{from_1_to}
+use Rattle.knx_top.specs.commands.big.{BigWords, big_words, commission_made, made, nothing, start_value}
 use Rattle.call_parts.specs.declared.ending.End.TheVariants as ends
 use Rattle.knx_top.proofs.CalmRuns.{on_line}
 use Rattle.knx_top.proofs.DoneCounts.{all_done, done_either_way, job_at, numbered, told_tells}

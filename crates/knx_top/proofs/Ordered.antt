@@ -12,8 +12,8 @@ use Rattle.knx_top.specs.Begun.{BeginsLine, IsPrepared, OrderFor}
 use Rattle.call_parts.specs.Judged.{unless_strange}
 use Rattle.call_parts.specs.Stops.{is_known, unknown_job}
 use Rattle.knx_top.specs.declared.commands.sim.judge.Order.{Order}
-use Rattle.call_parts.specs.Options.{SimOptions}
-use Rattle.knx_top.specs.commands.Sim.{with_lines}
+use Rattle.call_parts.specs.declared.options.SimOptions.{SimOptions}
+use Rattle.knx_top.specs.commands.sim.{with_lines}
 
 pub strange_ends : (o : SimOptions) (new old : Installation) (lines : List ScriptLine) (why : Stop) → (why ≢ stop.NoMemory tt → unless_strange new old lines ≡ Err why) → why ≢ stop.NoMemory tt → with_lines o new old lines ≡ Err why
 strange_ends o new old lines why h w = rw (h w) refl

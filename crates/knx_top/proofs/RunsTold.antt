@@ -12,8 +12,8 @@ use Rattle.knx_top.specs.Complete.{IsRunTold, IsValidRun, NoneRose, sim_texts_to
 use Rattle.call_parts.specs.Ending.{Replies, report_in}
 use Rattle.call_parts.specs.Input.{fault_in, failed, first_some, goes_on}
 use Rattle.knx_top.specs.Ran.{Commission, Left}
-use Rattle.knx_top.specs.commands.Big.{BigWords, RunsMade, commission_made, made, summed}
-use Rattle.knx_top.specs.commands.Sim.{Runs, RunsScript, SimWords, commission_told, failed_of_sim, sim_tests}
+use Rattle.knx_top.specs.commands.big.{BigWords, RunsMade, commission_made, made, summed}
+use Rattle.knx_top.specs.commands.sim.{Runs, RunsScript, SimWords, commission_told, failed_of_sim, sim_tests}
 use Rattle.knx_top.specs.declared.commands.sim.SimTexts.{SimTexts}
 use Rattle.call_parts.specs.declared.ending.End.{End}
 use Rattle.call_parts.specs.declared.ending.End.TheVariants as ends

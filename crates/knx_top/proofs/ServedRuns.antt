@@ -30,7 +30,7 @@ use Rattle.knx_top.proofs.Answered.{added_below, breaks_below, by_added, counts_
 use Rattle.knx_top.proofs.DialledRuns.{to_address}
 use Rattle.call_parts.specs.Identity.{about_gateway, own_endpoint}
 use Rattle.call_parts.specs.declared.ending.ServiceEnd.{ServiceEnd}
-use Rattle.knx_top.specs.commands.Gateway.{CountsService, end_of_serving, IsBrokenOff, IsServed, ServedRun, Service, ServesTo, Serving, unless_failed}
+use Rattle.knx_top.specs.commands.gateway.{CountsService, end_of_serving, IsBrokenOff, IsServed, ServedRun, Service, ServesTo, Serving, unless_failed}
 
 -- ---- a serving in which an answer failed broke off so, if not otherwise
 

@@ -28,7 +28,7 @@ use Rattle.knx_top.proofs.Driven.{same_start, told_whole}
 use Rattle.knx_top.proofs.Meanings.{now_case}
 use Rattle.call_parts.specs.declared.ending.End.{End}
 use Rattle.call_parts.specs.declared.ending.End.TheVariants as ends
-use Rattle.knx_top.specs.commands.Sim.{ShowsRun, Runs}
+use Rattle.knx_top.specs.commands.sim.{ShowsRun, Runs}
 
 -- ---- the devices of the line stay on it
 

@@ -1,26 +1,28 @@
--- What words ask for is just the command that they spell.
-use Rattle.std.proofs.Common.{ℕ, ◌≡◌, ◌↔◌, Bool, true, false, codes, List, [], ◌∷◌, Option, Some, None, refl, sym, subst}
+-- What words ask for is just what is read of them.
+use Rattle.std.proofs.Common.{ℕ, ◌≡◌, ◌↔◌, Bool, true, false, codes, List, [], ◌∷◌, Option, Some, None, refl, sym, subst, ◌∙◌}
 use Rattle.std.specs.Prelude.{bytes_eq, if◌then◌else◌, option_and_then}
 use Rattle.std.specs.Option.{option_map}
 use Rattle.std.proofs.lemmas.Slice.Eq.{bytes_eq-Decides}
-use Rattle.knx_top.specs.Command.{Command, Check, Tables, Migrate, Sim, Decode, SpellsCommand, SpellsCheck, SpellsTables, SpellsMigrate, SpellsSim, SpellsDecode, SpellsDownload, SpellsGateway, SpellsSearch, SpellsDescription, SpellsAssign, SpellsAssignSim, SpellsBig, Assign, AssignSim, Big, Download, Find, Gateway, asked, assign_asked, other_asked}
+use Rattle.knx_top.specs.commands.{WordsAsk, Command, Check, Tables, Migrate, Sim, Decode, SpellsCommand, SpellsCheck, SpellsTables, SpellsMigrate, SpellsSim, SpellsDecode, SpellsDownload, SpellsGateway, SpellsSearch, SpellsDescription, SpellsAssign, SpellsAssignSim, SpellsBig, Assign, AssignSim, Big, Download, Find, Gateway, asked, assign_asked, other_asked}
 use Rattle.line_model.specs.Dialled.{Address}
 use Rattle.call_parts.specs.Fronts.{Spells, SpellsAll}
 use Rattle.call_parts.specs.Host.{address_value}
 use Rattle.knx_top.proofs.ReadBy.{AreApart, all_from, all_to, fronts, none_begins_another, reads_spelled, spells_read}
 use Rattle.call_parts.specs.Project.{ProjectWords, project_words}
-use Rattle.call_parts.specs.Options.{SimOptions, from_1_to, no_options, project_options, project_rows, run_rows, sim_options}
-use Rattle.knx_top.specs.commands.Sim.{SimWords, sim_words}
+use Rattle.call_parts.specs.declared.options.SimOptions.{SimOptions}
+use Rattle.call_parts.specs.Options.{no_options, project_options, project_rows, run_rows, sim_options}
+use Rattle.call_parts.specs.OptionValues.{from_1_to}
+use Rattle.knx_top.specs.commands.sim.{SimWords, sim_words}
 use Rattle.knx_model.specs.Addresses.{ind_value}
 use Rattle.knx_model.specs.declared.address.IndAddr.{IndAddr}
-use Rattle.knx_top.specs.commands.Assign.{AssignSimWords, AssignWords, assign_sim_words}
-use Rattle.knx_top.specs.commands.Big.{BigWords, big_words, most_devices, start_value}
-use Rattle.knx_top.specs.commands.Download.{DownloadWords, download_words}
+use Rattle.knx_top.specs.commands.assign.{AssignSimWords, AssignWords, assign_sim_words}
+use Rattle.knx_top.specs.commands.big.{BigWords, big_words, most_devices, start_value}
+use Rattle.knx_top.specs.commands.download.{DownloadWords, download_words}
 use Rattle.discovery.specs.declared.inquiry.Inquiry.{Inquiry}
 use Rattle.discovery.specs.declared.inquiry.Inquiry.TheVariants.{Search, Description}
-use Rattle.knx_top.specs.commands.Find.{FindWords, find_words}
-use Rattle.knx_top.specs.commands.Gateway.{GatewayWords, gateway_words, turns_rows, turns_value}
-use Rattle.knx_top.specs.commands.Decode.{decode_word}
+use Rattle.knx_top.specs.commands.find.{FindWords, find_words}
+use Rattle.knx_top.specs.commands.gateway.{GatewayWords, gateway_words, turns_rows, turns_value}
+use Rattle.knx_top.specs.commands.decode.{decode_word}
 
 -- ---- in each table no front begins another
 
@@ -248,5 +250,18 @@ spelled_to (first ∷ words) command e = assign_or_other (bytes_eq first (codes 
     assign_or_other true first words command is e = headed first (codes "assign") words command is (assign_of_words words command e)
     assign_or_other false first words command is e = other_to first words command e
 
-pub commands : (words : List (List ℕ)) (command : Command) → (asked words ≡ Some command) ↔ SpellsCommand words command
-commands words command = (spelled_to words command, asked_from words command)
+-- what words ask for is what is read of them
+pub asks_is : (words : List (List ℕ)) (asks : Option Command) → WordsAsk words asks → asked words ≡ asks
+asks_is words (Some command) s = asked_from words command s
+asks_is words None none = by_read (asked words) refl
+  where
+    by_read : (read : Option Command) → asked words ≡ read → asked words ≡ None
+    by_read None e = e
+    by_read (Some command) e = absurd (none command (spelled_to words command e))
+
+asks_read : (words : List (List ℕ)) (asks : Option Command) → asked words ≡ asks → WordsAsk words asks
+asks_read words (Some command) e = spelled_to words command e
+asks_read words None e = λ command s. absurd (let same : None ≡ Some command = sym e ∙ asked_from words command s in cc)
+
+pub asks_just : (words : List (List ℕ)) (asks : Option Command) → WordsAsk words asks ↔ (asked words ≡ asks)
+asks_just words asks = (asks_is words asks, asks_read words asks)

@@ -8,7 +8,7 @@ use Rattle.std.specs.Str.Parse.{digits_value, AllDigits, IsNumeral, ParsesUnsign
 use Rattle.std.proofs.lemmas.Bool.{lt-ltb, le-leb, leb-true, ne_eqb}
 use Rattle.knx_model.specs.Numbers.{is_digit, numeral, up_to}
 use Rattle.call_parts.proofs.Hosts.{all_digits, no_digits}
-use Rattle.knx_top.specs.commands.Big.{start_value}
+use Rattle.knx_top.specs.commands.big.{start_value}
 
 -- a digit is no plus
 no_plus : (word : List ℕ) → AllDigits 10 word → without_leading_plus word ≡ word

@@ -58,7 +58,7 @@ use Rattle.line_model.specs.World.{World, Event, me}
 use Rattle.call_parts.specs.Jobs.{ArePlanned, IsPlanned, is_load, plan_of}
 use Rattle.table_compiler.proofs.Unique.{one_image}
 use Rattle.knx_top.proofs.Meanings.{planned_of}
-use Rattle.call_parts.specs.Options.{most_jobs}
+use Rattle.call_parts.specs.OptionValues.{most_jobs}
 use Rattle.call_parts.specs.Turns.{most_turns}
 use Rattle.hub_core.specs.Commissioned.{log_of}
 use Rattle.knx_top.specs.Ran.{Commission, IsRunOf, IsToldOver, KeepsPromises}

@@ -20,7 +20,7 @@ use Rattle.line_model.proofs.Entries.{entries_placed}
 use Rattle.table_compiler.proofs.Lengths.{length-object_list}
 use Rattle.table_compiler.specs.Images.{IsImage}
 use Rattle.call_parts.specs.Jobs.{ArePlanned, IsPlanned, plan_of}
-use Rattle.call_parts.specs.Options.{most_jobs}
+use Rattle.call_parts.specs.OptionValues.{most_jobs}
 use Rattle.call_parts.specs.Turns.{most_turns}
 use Rattle.std.specs.List.{AllByRecursion}
 

@@ -20,24 +20,24 @@ use Rattle.call_parts.specs.declared.project.ProjectTexts.{ProjectTexts}
 use Rattle.call_parts.specs.Ending.{report_in}
 use Rattle.call_parts.specs.Input.{first_some}
 use Rattle.call_parts.specs.Jobs.{AreJobs, ArePlanned, seen_job}
-use Rattle.call_parts.specs.Options.{SimOptions, no_options}
+use Rattle.call_parts.specs.declared.options.SimOptions.{SimOptions}
+use Rattle.call_parts.specs.Options.{no_options}
 use Rattle.call_parts.specs.Project.{ProjectIsRead, ProjectWords, project_told}
 use Rattle.call_parts.specs.Stops.{project_in}
 use Rattle.call_parts.proofs.Stops.{passed, unless_stopped}
 use Rattle.knx_top.specs.Begun.{IsOrder, OrderFor}
-use Rattle.knx_top.specs.Call.{begins_run}
-use Rattle.knx_top.specs.Command.{Command}
-use Rattle.knx_top.specs.Command as asked
+use Rattle.knx_top.specs.commands.{Command, begins_run}
+use Rattle.knx_top.specs.commands as commands
 use Rattle.knx_top.specs.Ran.{Commission}
 use Rattle.knx_top.specs.Watched.{TellsOfJobs, TellsOfRun, TellsTested, TellsWatcher, WhereRun}
-use Rattle.knx_top.specs.commands.Big.{BigWords, commission_made, made, summed}
-use Rattle.knx_top.specs.commands.Download.{Download, DownloadWords, IsReadyFor, ReadyFor, download_tests, download_told, judged_download, project_named}
-use Rattle.knx_top.specs.commands.Sim.{ShowsRun, SimIsRead, SimWords, commission_told, judged, sim_tests}
+use Rattle.knx_top.specs.commands.big.{BigWords, commission_made, made, summed}
+use Rattle.knx_top.specs.commands.download.{Download, DownloadWords, IsReadyFor, ReadyFor, download_tests, download_told, judged_download, project_named}
+use Rattle.knx_top.specs.commands.sim.{ShowsRun, SimIsRead, SimWords, commission_told, judged, sim_tests}
 use Rattle.knx_top.specs.declared.commands.download.Ready.{Ready}
 use Rattle.knx_top.specs.declared.commands.sim.SimTexts.{SimTexts}
 use Rattle.knx_top.specs.declared.commands.sim.judge.Order.{Order}
-use Rattle.knx_top.proofs.commands.Downloads.{judged_download_is}
-use Rattle.knx_top.proofs.commands.Sims.{judged_is}
+use Rattle.knx_top.proofs.Calls.Downloads.{judged_download_is}
+use Rattle.knx_top.proofs.Calls.Sims.{judged_is}
 
 module _ (r : RunNow) (report : Report) (jobs : List JobWord) (turns : ℕ) (devices : List (IndAddr × Option Image)) (log : Bool) where
   shown_report : (end : End) → ShowsRun r report jobs turns devices log end → report_in end ≡ Some report
@@ -141,7 +141,7 @@ sim_tested words texts order before after o None tells = tells
 sim_tested words texts order before after o (Some report) tells = of_judged words texts (judged words texts) order report before after refl o tells
 
 pub sim_read : (file : List ℕ → FileContent) (words : SimWords) (texts : SimTexts) (before after : Watch) → SimIsRead file words texts → (report : Option Report)
-    → WhereRun (TellsTested (sim_tests words texts) words.options (project_in texts.catalogue texts.new)) report before after → WhereRun (TellsOfRun (Some (asked.Sim words)) file) report before after
+    → WhereRun (TellsTested (sim_tests words texts) words.options (project_in texts.catalogue texts.new)) report before after → WhereRun (TellsOfRun (Some (commands.Sim words)) file) report before after
 sim_read file words texts before after is None tells = tells
 sim_read file words texts before after is (Some report) tells = (texts, is, tells)
 
@@ -170,6 +170,6 @@ download_tested words texts ready before after r None tells = tells
 download_tested words texts ready before after r (Some report) tells = of_judged_download words texts (judged_download words texts) ready report before after refl r tells
 
 pub download_read : (file : List ℕ → FileContent) (words : DownloadWords) (named : ProjectWords) (texts : ProjectTexts) (before after : Watch) → named ≡ project_named words → ProjectIsRead file named texts → (report : Option Report)
-    → WhereRun (TellsTested (download_tests words texts) words.options (project_told texts)) report before after → WhereRun (TellsOfRun (Some (asked.Download words)) file) report before after
+    → WhereRun (TellsTested (download_tests words texts) words.options (project_told texts)) report before after → WhereRun (TellsOfRun (Some (commands.Download words)) file) report before after
 download_read file words named texts before after same is None tells = tells
 download_read file words named texts before after same is (Some report) tells = (texts, subst (λ (these : ProjectWords). ProjectIsRead file these texts) same is, tells)

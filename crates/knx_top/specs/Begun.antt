@@ -17,7 +17,8 @@ use Rattle.line_model.specs.Polled.{none_failed}
 use Rattle.line_model.specs.StartOf.{BusOf, is_on_bus}
 use Rattle.call_parts.specs.Jobs.{AreJobs, ArePlanned, seen_job}
 use Rattle.call_parts.specs.OnLine.{AreCompiled, on_bus}
-use Rattle.call_parts.specs.Options.{most_jobs, workers_of}
+use Rattle.call_parts.specs.Options.{workers_of}
+use Rattle.call_parts.specs.OptionValues.{most_jobs}
 use Rattle.call_parts.specs.Turns.{most_turns, turns_of}
 use Rattle.knx_top.specs.Ran.{Commission}
 use Rattle.knx_top.specs.declared.commands.sim.judge.Order.{Order}

@@ -30,11 +30,11 @@ use Rattle.call_parts.specs.Jobs.{AreJobs, ArePlanned}
 use Rattle.hub_core.specs.Commissioned.{log_of}
 use Rattle.knx_top.specs.Ran.{Commission, Left}
 use Rattle.knx_top.specs.Undisturbed.{AllServed}
-use Rattle.knx_top.specs.commands.Big.{BigWords}
+use Rattle.knx_top.specs.commands.big.{BigWords}
 use Rattle.call_parts.specs.Project.{ProjectWords, project_tests}
-use Rattle.knx_top.specs.commands.Download.{DialledRun, Download, DownloadWords, download_tests, project_named}
-use Rattle.knx_top.specs.commands.Gateway.{GatewayWords, ServedRun, Service, gateway_tests}
-use Rattle.knx_top.specs.commands.Sim.{IsReported, SimWords, sim_tests}
+use Rattle.knx_top.specs.commands.download.{DialledRun, Download, DownloadWords, download_tests, project_named}
+use Rattle.knx_top.specs.commands.gateway.{GatewayWords, ServedRun, Service, gateway_tests}
+use Rattle.knx_top.specs.commands.sim.{IsReported, SimWords, sim_tests}
 use Rattle.knx_top.specs.declared.commands.gateway.GatewayTexts.{GatewayTexts}
 use Rattle.knx_top.specs.declared.commands.sim.SimTexts.{SimTexts}
 use Rattle.call_parts.specs.declared.ending.End.{End}

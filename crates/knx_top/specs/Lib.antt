@@ -4,7 +4,5 @@ pub mod Ran
 pub mod Begun
 pub mod Dialled
 pub mod commands
-pub mod Command
 pub mod Watched
-pub mod Call
 pub mod Complete

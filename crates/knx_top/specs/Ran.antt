@@ -35,7 +35,9 @@ use Rattle.line_model.specs.OldStoppedOrNew.{MeansWhereDone, OldStoppedOrNew, Ru
 use Rattle.line_model.specs.declared.log.Report.{Report}
 use Rattle.bus_sim.specs.RunNow.{RunNow, start}
 use Rattle.knx_model.specs.declared.script.ScriptLine.{ScriptLine}
-use Rattle.call_parts.specs.Options.{SimOptions, most_jobs, workers_of}
+use Rattle.call_parts.specs.declared.options.SimOptions.{SimOptions}
+use Rattle.call_parts.specs.Options.{workers_of}
+use Rattle.call_parts.specs.OptionValues.{most_jobs}
 use Rattle.line_model.specs.Lines.{script_of}
 use Rattle.tunnel_link.specs.Rights.{WhereTold}
 use Rattle.knx_top.specs.Undisturbed.{IsUndisturbed, NothingFails}

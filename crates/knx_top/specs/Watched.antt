@@ -11,14 +11,15 @@ use Rattle.call_words.specs.declared.job_word.JobWord.{JobWord}
 use Rattle.call_words.specs.declared.stop.Stop.{Stop}
 use Rattle.call_parts.specs.Input.{first_some}
 use Rattle.call_parts.specs.Jobs.{AreJobs}
-use Rattle.call_parts.specs.Options.{SimOptions, no_options}
+use Rattle.call_parts.specs.declared.options.SimOptions.{SimOptions}
+use Rattle.call_parts.specs.Options.{no_options}
 use Rattle.call_parts.specs.Project.{ProjectIsRead, project_told}
 use Rattle.call_parts.specs.Stops.{project_in}
 use Rattle.call_parts.specs.declared.project.ProjectTexts.{ProjectTexts}
-use Rattle.knx_top.specs.Command.{Big, Command, Download, Sim}
-use Rattle.knx_top.specs.commands.Big.{made}
-use Rattle.knx_top.specs.commands.Download.{download_tests, project_named}
-use Rattle.knx_top.specs.commands.Sim.{SimIsRead, sim_tests}
+use Rattle.knx_top.specs.commands.{Big, Command, Download, Sim}
+use Rattle.knx_top.specs.commands.big.{made}
+use Rattle.knx_top.specs.commands.download.{download_tests, project_named}
+use Rattle.knx_top.specs.commands.sim.{SimIsRead, sim_tests}
 use Rattle.knx_top.specs.declared.commands.sim.SimTexts.{SimTexts}
 
 -- ---- of a run with this report

@@ -1,9 +1,8 @@
 //! The top call.
 
-ghost use Rattle.std.specs.Prelude.{◌≡◌, ◌≤◌, ◌+◌, ℕ, List, None, false, length, map, string_bytes};
+ghost use Rattle.std.specs.Prelude.{◌≡◌, ◌≤◌, ◌+◌, ℕ, List, None, Option, false, length, map, string_bytes};
 ghost use Rattle.knx_model.specs.Outside.{one_more};
-ghost use Rattle.knx_top.specs.Call.{Does, begins_units, files_of, reaches_network};
-ghost use Rattle.knx_top.specs.Command.{asked};
+ghost use Rattle.knx_top.specs.commands.{WordsAsk, Command, Does, begins_units, files_of, reaches_network};
 ghost use Rattle.call_parts.specs.Ending.{Replies};
 ghost use Rattle.knx_top.specs.Watched.{TellsOfRun, WhereRun};
 ghost use Rattle.line_model.specs.Watched.{watch_in};
@@ -43,17 +42,17 @@ pub fn knx<
     watch: &mut Option<W>,
     last: &mut Option<Report>,
 ) -> Status
-    // what its command does, row by row of `Does`
-    ensures does { Does (asked (map string_bytes words.now)) (record { files = F.now files.old; line = sim.old; units = units.old; dialer = D.now dial.old; report = None }) (record { files = F.now files.new; line = sim.new; units = units.new; dialer = D.now dial.new; report = last.new }) (Replies (K.now out.old) (K.now out.new) result) }
+    // what the words ask for is done, row by row of `Does`; they ask for just one thing (`words_ask`)
+    ensures does { (command : Option Command) → WordsAsk (map string_bytes words.now) command → Does command (record { files = F.now files.old; line = sim.old; units = units.old; dialer = D.now dial.old; report = None }) (record { files = F.now files.new; line = sim.new; units = units.new; dialer = D.now dial.new; report = last.new }) (Replies (K.now out.old) (K.now out.new) result) }
     // a command that reaches no network leaves the dialer as it was, and one that gives no address on the simulated bus of units leaves that
-    ensures undialled { reaches_network (asked (map string_bytes words.now)) ≡ false → dial.new ≡ dial.old }
-    ensures units { begins_units (asked (map string_bytes words.now)) ≡ false → units.new ≡ units.old }
+    ensures undialled { (command : Option Command) → WordsAsk (map string_bytes words.now) command → reaches_network command ≡ false → dial.new ≡ dial.old }
+    ensures units { (command : Option Command) → WordsAsk (map string_bytes words.now) command → begins_units command ≡ false → units.new ≡ units.old }
     // who watches is told the log of the run, each entry once and in order; of a job that a worker holds by the entries told before, at most once a second, its device,
     // and how many of its operations are over, of how many; and nothing else, nothing where no run was begun, and nothing where the words ask for quiet
-    ensures watched { WhereRun (TellsOfRun (asked (map string_bytes words.now)) (F.now files.old).file) last.new (watch_in W.watch watch.old) (watch_in W.watch watch.new) }
+    ensures watched { (command : Option Command) → WordsAsk (map string_bytes words.now) command → WhereRun (TellsOfRun command (F.now files.old).file) last.new (watch_in W.watch watch.old) (watch_in W.watch watch.new) }
     // what the files tell stays, there are at most as many reads as the words name files, and there is just one write
     ensures files { (name : List ℕ) → (F.now files.new).file name ≡ (F.now files.old).file name }
-    ensures reads { (F.now files.new).reads ≤ (F.now files.old).reads + length (files_of (asked (map string_bytes words.now))) }
+    ensures reads { (command : Option Command) → WordsAsk (map string_bytes words.now) command → (F.now files.new).reads ≤ (F.now files.old).reads + length (files_of command) }
     ensures written { (K.now out.new).writes ≡ one_more (K.now out.old).writes }
 {
     *last = None;

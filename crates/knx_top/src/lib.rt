@@ -3,7 +3,6 @@
 
 mod call;
 mod commands;
-mod complete;
 mod line;
 mod shown;
 mod watched;
@@ -12,7 +11,6 @@ pub use address_sim::AddressBus;
 pub use bus_sim::SimBus;
 pub use call::knx;
 pub use call_words::Status;
-pub use commands::commands_spelled;
-pub use complete::{valid_input_is_served, valid_input_is_told};
+pub use commands::words_ask;
 pub use line_model::Report;
 pub use report_text::NO_MEMORY;

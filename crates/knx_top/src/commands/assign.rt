@@ -1,7 +1,7 @@
 //! `assign ADDR IA` and `assign sim UNITS IA`: the one unit in programming mode gets an individual address, over a dialled link, which is handed back to the
 //! dialer before the call answers, or over the simulated bus of units.
 
-ghost use Rattle.std.specs.Prelude.{◌≡◌, ◌≢◌, ◌≤◌, ◌+◌, ℕ, [], Err, Ok, IfErr, IfOk, List as Seq};
+ghost use Rattle.std.specs.Prelude.{◌≡◌, ◌≢◌, ◌≤◌, ◌+◌, ℕ, [], Err, IfErr, IfOk, List as Seq, Ok};
 ghost use Rattle.std.specs.Option.{option_map};
 ghost use Rattle.address_text.specs.UnitText.{unit_reading};
 ghost use Rattle.call_words.specs.declared.input_file.InputFile.TheVariants.{Script as OfScript};
@@ -10,7 +10,7 @@ ghost use Rattle.line_model.specs.LinkStory.{IsNewLink};
 ghost use Rattle.line_model.specs.Polled.{none_failed};
 ghost use Rattle.call_parts.specs.Ending.{Is};
 ghost use Rattle.call_parts.specs.Judged.{Gives as GivesAs, unless_refused};
-ghost use Rattle.knx_top.specs.commands.Assign.{BeginsAs, GivesOr, GivesOver, GivesSim, RunsAssign, RunsAssignSim, TellsOutcome, Units, assign_sim_words, assign_sim_words_of, assign_words, assign_words_of, judged_units, tunnel_beside};
+ghost use Rattle.knx_top.specs.commands.assign.{BeginsAs, GivesOr, GivesOver, GivesSim, RunsAssign, RunsAssignSim, TellsOutcome, Units, assign_sim_words, assign_sim_words_of, assign_words, assign_words_of, judged_units, tunnel_beside};
 
 use address_commission::{Plain, assign};
 use address_sim::{

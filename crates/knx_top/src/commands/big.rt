@@ -1,15 +1,21 @@
 //! `big N START`: a run of `sim` over the line of N devices that a number makes, told in one line.
 
-ghost use Rattle.std.specs.Prelude.{◌≡◌, ◌≢◌, ◌≤◌, Err, IfErr, IfOk, map, string_bytes};
+ghost use Rattle.std.specs.Prelude.{◌≡◌, ◌≢◌, ◌≤◌, [], ℕ, ◌∷◌, Err, IfErr, IfOk, List, Some, map, string_bytes};
 ghost use Rattle.call_words.specs.declared.stop.Stop.TheVariants.{NoMemory as OutOfMemory};
 ghost use Rattle.knx_model.specs.Counts.{counts_of};
 ghost use Rattle.knx_top.specs.Begun.{OrderFor};
-ghost use Rattle.call_parts.specs.Ending.{Is, report_in};
-ghost use Rattle.knx_top.specs.Ran.{FaultsOfLine};
+ghost use Rattle.call_parts.specs.Ending.{Is, Replies, report_in};
+ghost use Rattle.knx_top.specs.Ran.{FaultsOfLine, Left};
 ghost use Rattle.call_parts.specs.Options.{no_options};
 ghost use Rattle.knx_top.specs.Watched.{TellsOfJobs, WhereRun};
 ghost use Rattle.line_model.specs.Watched.{watch_in};
-ghost use Rattle.knx_top.specs.commands.Big.{RunsMade, big_words, judged_made, made, most_devices, start_value, summed};
+ghost use Rattle.knx_top.specs.commands.big.{BigWords, RunsMade, big_words, commission_made, judged_made, made, most_devices, start_value, summed};
+ghost use Rattle.bus_sim.specs.Loaded.{BusNow};
+ghost use Rattle.bus_sim.specs.Ended.{IsAtEnd};
+ghost use Rattle.knx_top.specs.Complete.{IsLoadedWhole, IsRunTold};
+ghost use Rattle.knx_model.specs.Outside.{Rose, SinkNow};
+ghost use Rattle.call_words.specs.declared.status.Status.{Status};
+ghost use Rattle.call_parts.specs.declared.ending.End.TheVariants.{Sums};
 
 use crate::commands::sim::judge::{Order, judge_behind};
 use crate::commands::sim::run::run;
@@ -40,7 +46,7 @@ pub struct BigNumbers {
 
 impl Model for BigNumbers {
     ghost use Rattle.std.specs.Prelude.{◌≤◌};
-    ghost use Rattle.knx_top.specs.commands.Big.{BigWords, most_devices};
+    ghost use Rattle.knx_top.specs.commands.big.{BigWords, most_devices};
 
     ghost Value = { BigWords };
 
@@ -128,3 +134,16 @@ pub fn call<R: Threads + Wait + Sync, G: Gate + Sync, W: Watcher + Send>(
         Err(why) => End::Stops(why),
     }
 }
+
+/// Where no count rose, the line that is made is run, and its sums are written with their status, or there was no memory.
+pub fn valid_input_is_told()
+    ensures { (words : BigWords) (before : BusNow) (after : Left) (out out' : SinkNow) (ending : Status) → ¬ Rose out.faults out'.faults → RunsMade words before after (Replies out out' ending)
+        → IsRunTold (λ told. Sums told (counts_of (made words))) (commission_made words) after out out' ending }
+{}
+
+/// Nothing disturbs a run of `big`: where it isn't as long as 64 bits can tell, each device that is made is loaded and runs
+/// what the project says of it at the end, the whole line tells so, and the status is 0; or there was no memory.
+pub fn each_made_line_is_loaded()
+    ensures { (devices start : List ℕ) (words : BigWords) (before : BusNow) (after : Left) (out out' : SinkNow) (ending : Status) → big_words (devices ∷ start ∷ []) ≡ Some words → ¬ Rose out.faults out'.faults → ¬ IsAtEnd after.line.run
+        → RunsMade words before after (Replies out out' ending) → IsLoadedWhole words out out' ending }
+{}

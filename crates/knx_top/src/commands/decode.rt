@@ -1,11 +1,14 @@
 //! `decode HEX`: the frame of octets.
 
-ghost use Rattle.std.specs.Prelude.{◌≡◌, map, string_bytes};
+ghost use Rattle.std.specs.Prelude.{◌≡◌, ℕ, List, Some, map, string_bytes};
 ghost use Rattle.std.specs.Option.{option_map};
 ghost use Rattle.frame_text.specs.FrameText.{IsFrameText, hex_word};
-ghost use Rattle.call_parts.specs.Ending.{Is, TellsOf, end_told};
+ghost use Rattle.call_parts.specs.Ending.{Is, Replies, TellsOf, end_told};
 ghost use Rattle.call_parts.specs.Names.{the_word};
-ghost use Rattle.knx_top.specs.commands.Decode.{TellsOfFrame, decode_word, octets_or_usage};
+ghost use Rattle.knx_top.specs.commands.decode.{TellsOfFrame, decode_word, octets_or_usage};
+ghost use Rattle.knx_top.specs.Complete.{IsToldWhole};
+ghost use Rattle.knx_model.specs.Outside.{Rose, SinkNow};
+ghost use Rattle.call_words.specs.declared.status.Status.{Status};
 
 use call_parts::End;
 use call_words::Stop;
@@ -40,3 +43,8 @@ pub fn call(alloc: Global, word: &str) -> End
 {
     End::told(told(alloc, word))
 }
+
+/// Where the word is one of octets and no count rose, the whole text is written with status 0, or there was no memory.
+pub fn valid_input_is_told()
+    ensures { (word octets : List ℕ) (out out' : SinkNow) (ending : Status) → hex_word word ≡ Some octets → ¬ Rose out.faults out'.faults → TellsOfFrame word (Replies out out' ending) → IsToldWhole (IsFrameText octets) out out' ending }
+{}

@@ -1,6 +1,6 @@
 //! `download ADDR NEW [catalogue=F] [log] [quiet] [workers=N]` and jobs: the jobs of a project over a dialled link, which is handed back to the dialer before the call answers.
 
-ghost use Rattle.std.specs.Prelude.{◌≡◌, ◌≢◌, ◌≤◌, ◌<◌, ◌+◌, ℕ, [], Err, IfErr, IfOk, List as Seq, Some, length, map, string_bytes};
+ghost use Rattle.std.specs.Prelude.{◌≡◌, ◌≢◌, ◌≤◌, ◌<◌, ◌+◌, ℕ, [], Err, IfErr, IfOk, List as Seq, Option, Some, length, map, string_bytes};
 ghost use Rattle.std.specs.List.{AllByRecursion};
 ghost use Rattle.std.specs.Option.{option_map};
 ghost use Rattle.call_words.specs.declared.stop.Stop.TheVariants.{NoMemory as OutOfMemory};
@@ -11,14 +11,20 @@ ghost use Rattle.line_model.specs.Polled.{none_failed};
 ghost use Rattle.line_model.specs.Watched.{watch_in};
 ghost use Rattle.knx_top.specs.Dialled.{CountsDialled};
 ghost use Rattle.knx_top.specs.Ran.{IsToldOver};
-ghost use Rattle.call_parts.specs.Ending.{Is, report_in};
+ghost use Rattle.call_parts.specs.Ending.{Is, Replies, report_in};
 ghost use Rattle.call_parts.specs.Jobs.{seen_job};
-ghost use Rattle.call_parts.specs.Names.{address_of, options_of};
-ghost use Rattle.call_parts.specs.Options.{most_jobs, workers_of};
-ghost use Rattle.knx_top.specs.Command.{Download as AskedDownload};
+ghost use Rattle.call_parts.specs.Names.{address_of};
+ghost use Rattle.call_parts.specs.Options.{workers_of};
+ghost use Rattle.call_parts.specs.OptionValues.{most_jobs};
+ghost use Rattle.knx_top.specs.commands.{Download as AskedDownload};
 ghost use Rattle.knx_top.specs.Watched.{TellsOfRun, TellsTested, TellsWatcher, WhereRun};
-ghost use Rattle.knx_top.specs.commands.Download.{Dials, DialsOr, Download, IsReady, IsReadyFor, ReadyFor, RunsDialled, download_tests, download_words, download_words_of, files_of_download, judged_download, project_named, with_project};
+ghost use Rattle.knx_top.specs.commands.download.{Dials, DialsOr, Download, DownloadWords, IsReady, IsReadyFor, ReadyFor, RunsDialled, download_tests, download_told, download_words, download_words_of, files_of_download, judged_download, project_named, with_project};
 ghost use Rattle.call_parts.specs.Project.{project_told, project_words_of};
+ghost use Rattle.line_model.specs.Dialled.{DialerNow};
+ghost use Rattle.knx_model.specs.Outside.{FilesNow, SinkNow};
+ghost use Rattle.knx_top.specs.Complete.{IsDownloadTold, IsValidDownload, NoneRose, texts_told};
+ghost use Rattle.line_model.specs.declared.log.Report.{Report as ReportOf};
+ghost use Rattle.call_words.specs.declared.status.Status.{Status};
 
 use crate::watched::{Run, commission};
 use call_parts::{
@@ -50,7 +56,7 @@ impl<'a> DownloadNames<'a> {
     {
         ProjectNames {
             project: self.new,
-            catalogue: self.options.catalogue,
+            catalogue: self.options.catalogue(),
         }
     }
 }
@@ -145,7 +151,7 @@ fn run<R: Threads + Wait + Sync, D: Dialer, G: Gate + Sync, W: Watcher + Send>(
     requires sound { D.L.faults line ≡ none_failed }
     requires few { length plans < 4294967296 }
     requires good { AllByRecursion IsGoodJob (map seen_job plans) }
-    ensures told { IsToldOver (workers_of (options_of options.now)) [] (map seen_job plans) (D.now dial.new).link_back result }
+    ensures told { IsToldOver (workers_of options.now) [] (map seen_job plans) (D.now dial.new).link_back result }
     ensures given { (D.now dial.new).given ≡ (D.now dial.old).given }
     ensures dials { (D.now dial.new).dials ≡ (D.now dial.old).dials }
     ensures counts { CountsDialled result (D.now dial.old) (D.now dial.new) }
@@ -176,7 +182,7 @@ fn dial_and_run<R: Threads + Wait + Sync, D: Dialer, G: Gate + Sync, W: Watcher 
     requires few { length ready.plans < 4294967296 }
     requires good { AllByRecursion IsGoodJob (map seen_job ready.plans) }
     ensures watched { WhereRun (TellsWatcher (map (λ (job : JobOfHub). job.device) ready.plans) names.now.options.quiet) (report_in result) (watch_in W.watch watch.old) (watch_in W.watch watch.new) }
-    ensures dials { (d : Download) → IsReadyFor d ready → d.at ≡ address_of names.now.at → d.options ≡ options_of names.now.options → Dials d (D.now dial.old) (D.now dial.new) result }
+    ensures dials { (d : Download) → IsReadyFor d ready → d.at ≡ address_of names.now.at → d.options ≡ names.now.options → Dials d (D.now dial.old) (D.now dial.new) result }
 {
     match dial.dial(names.at.host, names.at.port) {
         Ok(line) => {
@@ -212,7 +218,7 @@ fn download<R: Threads + Wait + Sync, D: Dialer, G: Gate + Sync, W: Watcher + Se
     gate: &G,
     watch: &mut Option<W>,
 ) -> End
-    ensures watched { WhereRun (TellsTested (download_tests (download_words_of names.now) texts.now) (options_of names.now.options) (project_told texts.now)) (report_in result) (watch_in W.watch watch.old) (watch_in W.watch watch.new) }
+    ensures watched { WhereRun (TellsTested (download_tests (download_words_of names.now) texts.now) names.now.options (project_told texts.now)) (report_in result) (watch_in W.watch watch.old) (watch_in W.watch watch.new) }
     ensures dials { DialsOr (judged_download (download_words_of names.now) texts.now) (D.now dial.old) (D.now dial.new) result }
 {
     match judge(rt, alloc, names, texts) {
@@ -239,3 +245,10 @@ pub fn call<R: Threads + Wait + Sync, F: Files, D: Dialer, G: Gate + Sync, W: Wa
     let texts = read_project_texts(alloc, files, names.project());
     download(rt, alloc, names, &texts, dial, gate, watch)
 }
+
+/// Where the files of the words are told, no test fails and no count rose, the gateway of the words is dialled once, and the whole report is written with its status, or
+/// that it couldn't be dialled, or there was no memory.
+pub fn valid_input_is_told()
+    ensures { (words : DownloadWords) (files files' : FilesNow) (before after : DialerNow) (report : Option ReportOf) (out out' : SinkNow) (ending : Status) → IsValidDownload files.file words → NoneRose files files' out out'
+        → RunsDialled words files files' before after report (Replies out out' ending) → IsDownloadTold (download_told words (texts_told files.file (project_named words))) before after report out out' ending }
+{}

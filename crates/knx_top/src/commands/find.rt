@@ -3,7 +3,7 @@
 ghost use Rattle.std.specs.Prelude.{◌≡◌, Err, map, string_bytes};
 ghost use Rattle.std.specs.Option.{option_map};
 ghost use Rattle.call_parts.specs.Ending.{Is};
-ghost use Rattle.knx_top.specs.commands.Find.{EndsFor, RunsFind, find_words, find_words_of, inquiry_value};
+ghost use Rattle.knx_top.specs.commands.find.{EndsFor, RunsFind, find_words, find_words_of, inquiry_value};
 
 use call_parts::{End, GatewayAddress, SearchEnd, address_in};
 use call_words::Stop;

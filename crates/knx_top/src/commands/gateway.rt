@@ -5,10 +5,15 @@ ghost use Rattle.std.specs.Option.{option_map};
 ghost use Rattle.call_words.specs.declared.stop.Stop.TheVariants.{NoMemory as OutOfMemory};
 ghost use Rattle.line_model.specs.Polled.{none_failed};
 ghost use Rattle.line_model.specs.PortStory.{IsNewPort};
-ghost use Rattle.call_parts.specs.Ending.{Is, report_in};
+ghost use Rattle.call_parts.specs.Ending.{Is, Replies, report_in};
 ghost use Rattle.call_parts.specs.Input.{OnlyRose};
 ghost use Rattle.call_parts.specs.Names.{address_of};
-ghost use Rattle.knx_top.specs.commands.Gateway.{GatewayIsRead, IsLineOf, LineFor, RunsGateway, Serves, ServesOr, Service, Serving, end_of_fault, end_of_serving, failed_of_gateway, files_of_gateway, gateway_words, gateway_words_of, judged_gateway, turns_value, unless_failed, with_lines};
+ghost use Rattle.knx_top.specs.commands.gateway.{GatewayIsRead, GatewayWords, IsLineOf, LineFor, RunsGateway, Serves, ServesOr, Service, Serving, end_of_fault, end_of_serving, failed_of_gateway, files_of_gateway, gateway_told, gateway_words, gateway_words_of, judged_gateway, turns_value, unless_failed, with_lines};
+ghost use Rattle.bus_sim.specs.Loaded.{BusNow};
+ghost use Rattle.line_model.specs.Dialled.{DialerNow};
+ghost use Rattle.knx_model.specs.Outside.{FilesNow, SinkNow};
+ghost use Rattle.knx_top.specs.Complete.{IsGatewayTold, IsValidGateway, NoneRose, gateway_texts_told};
+ghost use Rattle.call_words.specs.declared.status.Status.{Status};
 
 use crate::line::{line_begun, tunnel_address};
 use bus_sim::{Served, SimBus};
@@ -69,7 +74,7 @@ pub fn gateway_names(words: &[String]) -> Option<GatewayNames<'_>>
         old: old.as_str(),
         script: script.as_str(),
         turns,
-        catalogue: options.catalogue,
+        catalogue: options.catalogue(),
     })
 }
 
@@ -251,3 +256,10 @@ pub fn call<R: Threads + Sync, F: Files, D: Dialer>(
     let texts = read_gateway_texts(alloc, files, names);
     gateway(rt, alloc, names, &texts, sim, dial)
 }
+
+/// Where the files of the words are told, no test fails and no count rose, the port of the words is bound once, and how serving the line there ended is written with its
+/// status, or that it couldn't be bound, or there was no memory.
+pub fn valid_input_is_told()
+    ensures { (words : GatewayWords) (files files' : FilesNow) (before after : DialerNow) (line line' : BusNow) (out out' : SinkNow) (ending : Status) → IsValidGateway files.file words → NoneRose files files' out out'
+        → RunsGateway words files files' before after line line' (Replies out out' ending) → IsGatewayTold (gateway_told words (gateway_texts_told files.file words)) before after line' out out' ending }
+{}

@@ -1,10 +1,9 @@
 //! The commands: each with its words, what it reads, its tests in their order, what it does, and its end; which of them the words ask for, and that one done.
 
-ghost use Rattle.std.specs.Prelude.{◌≡◌, ◌≤◌, ◌+◌, ◌↔◌, ℕ, List, None, Some, false, length, map, string_bytes, true};
+ghost use Rattle.std.specs.Prelude.{◌≡◌, ◌≤◌, ◌+◌, ◌↔◌, ℕ, List, None, Option, Some, false, length, map, string_bytes, true};
 ghost use Rattle.std.specs.Option.{option_map};
 ghost use Rattle.call_parts.specs.Ending.{Is, report_in};
-ghost use Rattle.knx_top.specs.Call.{Does, begins_run, begins_units, files_of, reaches_network};
-ghost use Rattle.knx_top.specs.Command.{Command as Commanded, SpellsCommand, asked, assign_asked, command_of};
+ghost use Rattle.knx_top.specs.commands.{WordsAsk, Command as Commanded, Does, asked, assign_asked, begins_run, begins_units, command_of, files_of, reaches_network};
 ghost use Rattle.knx_top.specs.Watched.{TellsOfRun, WhereRun};
 ghost use Rattle.line_model.specs.Watched.{watch_in};
 
@@ -136,7 +135,7 @@ pub fn run<R: Threads + Wait + Sync, F: Files, D: Dialer, G: Gate + Sync, W: Wat
     }
 }
 
-/// What words ask for is just the command that they spell.
-pub fn commands_spelled()
-    ensures { (words : List (List ℕ)) (command : Commanded) → (asked words ≡ Some command) ↔ SpellsCommand words command }
+/// Words ask for just one thing, which is what is read of them: the command that they spell, or nothing.
+pub fn words_ask()
+    ensures { (words : List (List ℕ)) (asks : Option Commanded) → WordsAsk words asks ↔ (asked words ≡ asks) }
 {}

@@ -1,7 +1,7 @@
 use Rattle.std.proofs.Common.{List, length, ◌≤◌, subst, sym}
 use Rattle.call_words.specs.declared.job_word.JobWord.{JobWord}
 use Rattle.call_parts.proofs.FewJobs.{loads_few}
-use Rattle.call_parts.specs.Options.{most_jobs}
+use Rattle.call_parts.specs.OptionValues.{most_jobs}
 use Rattle.call_parts.proofs.jobs.all_loads.Goals as goal
 
 pub returns-clause-loads : goal.returns-clause-loads

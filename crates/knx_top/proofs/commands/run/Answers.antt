@@ -1,10 +1,10 @@
 use Rattle.std.proofs.Common.{◌≡◌, true, false, refl}
-use Rattle.knx_top.specs.commands.Check.{IsCountsText}
-use Rattle.knx_top.specs.commands.Migrate.{IsMigratedText}
-use Rattle.knx_top.specs.commands.Tables.{IsTablesText}
-use Rattle.knx_top.proofs.commands.Assigns.{assign_no_run, assign_sim_no_run}
-use Rattle.knx_top.proofs.commands.Decodes.{frame_no_run}
-use Rattle.knx_top.proofs.commands.Finds.{find_no_run}
+use Rattle.knx_top.specs.commands.check.{IsCountsText}
+use Rattle.knx_top.specs.commands.migrate.{IsMigratedText}
+use Rattle.knx_top.specs.commands.tables.{IsTablesText}
+use Rattle.knx_top.proofs.Calls.Assigns.{assign_no_run, assign_sim_no_run}
+use Rattle.knx_top.proofs.Calls.Decodes.{frame_no_run}
+use Rattle.knx_top.proofs.Calls.Finds.{find_no_run}
 use Rattle.call_parts.proofs.Projects.{project_no_run}
 use Rattle.knx_top.proofs.commands.run.Goals as goal
 

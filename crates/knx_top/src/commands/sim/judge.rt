@@ -4,9 +4,8 @@ ghost use Rattle.line_model.specs.Polled.{none_failed};
 ghost use Rattle.std.specs.Prelude.{◌≡◌, ◌≢◌, ◌≤◌, Err, IfErr, IfOk, length};
 ghost use Rattle.call_words.specs.declared.stop.Stop.TheVariants.{NoMemory as OutOfMemory};
 ghost use Rattle.knx_top.specs.Begun.{BeginsLine, IsPrepared, OrderFor};
-ghost use Rattle.call_parts.specs.Names.{options_of};
-ghost use Rattle.call_parts.specs.Options.{most_jobs};
-ghost use Rattle.knx_top.specs.commands.Sim.{judged, sim_words_of, with_lines, with_project};
+ghost use Rattle.call_parts.specs.OptionValues.{most_jobs};
+ghost use Rattle.knx_top.specs.commands.sim.{judged, sim_words_of, with_lines, with_project};
 
 use crate::commands::sim::{SimNames, SimTexts};
 use crate::line::{compiled, line_begun, on_bus};
@@ -81,8 +80,8 @@ fn judge_jobs<R: Threads + Sync>(
 ) -> Result<Order, Stop>
     requires begins { BeginsLine new.now old.now script.now.lines line.run }
     requires sound { line.faults ≡ none_failed }
-    ensures ok { IfOk result (λ order. OrderFor (with_lines (options_of options.now) new.now old.now script.now.lines) order) }
-    ensures err { IfErr result (λ why. why ≢ OutOfMemory tt → with_lines (options_of options.now) new.now old.now script.now.lines ≡ Err why) }
+    ensures ok { IfOk result (λ order. OrderFor (with_lines options.now new.now old.now script.now.lines) order) }
+    ensures err { IfErr result (λ why. why ≢ OutOfMemory tt → with_lines options.now new.now old.now script.now.lines ≡ Err why) }
 {
     let named = options.jobs.as_slice();
     if !are_known(new, named) {
@@ -101,8 +100,8 @@ fn judge_script<R: Threads + Sync>(
     old: &Checked<'_, '_>,
     script: &Script,
 ) -> Result<Order, Stop>
-    ensures ok { IfOk result (λ order. OrderFor (with_lines (options_of options.now) new.now old.now script.now.lines) order) }
-    ensures err { IfErr result (λ why. why ≢ OutOfMemory tt → with_lines (options_of options.now) new.now old.now script.now.lines ≡ Err why) }
+    ensures ok { IfOk result (λ order. OrderFor (with_lines options.now new.now old.now script.now.lines) order) }
+    ensures err { IfErr result (λ why. why ≢ OutOfMemory tt → with_lines options.now new.now old.now script.now.lines ≡ Err why) }
 {
     match line_begun(rt, alloc, new, old, script) {
         Ok(line) => judge_jobs(rt, alloc, options, new, old, script, line),
@@ -120,8 +119,8 @@ pub fn judge_behind<R: Threads + Sync>(
     old: &[u8],
     script: &[u8],
 ) -> Result<Order, Stop>
-    ensures ok { IfOk result (λ order. OrderFor (with_project (options_of options.now) models.now old.now script.now new.now) order) }
-    ensures err { IfErr result (λ why. why ≢ OutOfMemory tt → with_project (options_of options.now) models.now old.now script.now new.now ≡ Err why) }
+    ensures ok { IfOk result (λ order. OrderFor (with_project options.now models.now old.now script.now new.now) order) }
+    ensures err { IfErr result (λ why. why ≢ OutOfMemory tt → with_project options.now models.now old.now script.now new.now ≡ Err why) }
 {
     let old = project_in(rt, alloc, InputFile::Old, old)?;
     let old = sound_in(rt, alloc, InputFile::Old, &old, models)?;
@@ -140,7 +139,7 @@ pub fn judge<R: Threads + Sync>(
     ensures ok { IfOk result (λ order. OrderFor (judged (sim_words_of names.now) texts.now) order) }
     ensures err { IfErr result (λ why. why ≢ OutOfMemory tt → judged (sim_words_of names.now) texts.now ≡ Err why) }
 {
-    read_of(alloc, names.options.catalogue, &texts.catalogue)?;
+    read_of(alloc, names.options.catalogue(), &texts.catalogue)?;
     let new = read_of(alloc, Some(names.new), &texts.new)?;
     let old = read_of(alloc, Some(names.old), &texts.old)?;
     let script = read_of(alloc, Some(names.script), &texts.script)?;

@@ -12,13 +12,12 @@ ghost use Rattle.line_model.specs.Headline.{IsGoodJob};
 ghost use Rattle.knx_top.specs.Begun.{IsOrder};
 ghost use Rattle.call_parts.specs.Ending.{report_in};
 ghost use Rattle.call_parts.specs.Jobs.{seen_job};
-ghost use Rattle.call_parts.specs.Names.{options_of};
 ghost use Rattle.call_parts.specs.Stops.{project_in};
 ghost use Rattle.knx_top.specs.Ran.{Commission, FaultsOfLine};
 ghost use Rattle.knx_top.specs.Watched.{TellsTested, TellsWatcher, WhereRun};
 ghost use Rattle.line_model.specs.Polled.{none_failed};
 ghost use Rattle.line_model.specs.Watched.{watch_in};
-ghost use Rattle.knx_top.specs.commands.Sim.{Comes, Runs, ShowsRun, judged, sim_tests, sim_words_of};
+ghost use Rattle.knx_top.specs.commands.sim.{Comes, Runs, ShowsRun, judged, sim_tests, sim_words_of};
 
 use crate::commands::sim::judge::{Order, judge};
 use crate::commands::sim::{SimNames, SimTexts};
@@ -80,7 +79,7 @@ pub fn run<R: Threads + Wait + Sync, G: Gate + Sync, W: Watcher + Send>(
     requires few_turns { length order.turns < 4294967296 }
     requires sendable { AllByRecursion IsTurnInRange order.turns }
     requires devices { All (λ (d : Address × Option Compiled). IsSome ((world order.line.run).devices d.0.raw)) order.devices }
-    ensures runs { (c : Commission) → IsOrder c order → c.options ≡ options_of options.now → Runs c sim.old sim.new result }
+    ensures runs { (c : Commission) → IsOrder c order → c.options ≡ options.now → Runs c sim.old sim.new result }
     ensures link { FaultsOfLine (report_in result) sim.new }
     ensures watched { WhereRun (TellsWatcher (map (λ (job : JobOfHub). job.device) order.plans) options.now.quiet) (report_in result) (watch_in W.watch watch.old) (watch_in W.watch watch.new) }
 {
@@ -131,7 +130,7 @@ pub fn commission<R: Threads + Wait + Sync, G: Gate + Sync, W: Watcher + Send>(
 ) -> End
     ensures comes { Comes (judged (sim_words_of names.now) texts.now) sim.old sim.new result }
     ensures link { FaultsOfLine (report_in result) sim.new }
-    ensures watched { WhereRun (TellsTested (sim_tests (sim_words_of names.now) texts.now) (options_of names.now.options) (project_in texts.now.catalogue texts.now.new)) (report_in result) (watch_in W.watch watch.old) (watch_in W.watch watch.new) }
+    ensures watched { WhereRun (TellsTested (sim_tests (sim_words_of names.now) texts.now) names.now.options (project_in texts.now.catalogue texts.now.new)) (report_in result) (watch_in W.watch watch.old) (watch_in W.watch watch.new) }
 {
     match judge(rt, alloc, names, texts) {
         Ok(order) => run(rt, alloc, order, &names.options, sim, gate, watch),

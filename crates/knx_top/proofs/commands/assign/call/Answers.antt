@@ -1,6 +1,6 @@
 use Rattle.std.proofs.Common.{refl}
-use Rattle.knx_top.specs.commands.Assign.{assign_words_of}
-use Rattle.knx_top.proofs.commands.Assigns.{given_dialled}
+use Rattle.knx_top.specs.commands.assign.{assign_words_of}
+use Rattle.knx_top.proofs.Calls.Assigns.{given_dialled}
 use Rattle.knx_top.proofs.commands.assign.call.Goals as goal
 
 pub returns-in-Ok : goal.returns-in-Ok

@@ -1,5 +1,5 @@
-use Rattle.knx_top.specs.commands.Assign.{assign_sim_words_of}
-use Rattle.knx_top.proofs.commands.Assigns.{runs_assign_sim}
+use Rattle.knx_top.specs.commands.assign.{assign_sim_words_of}
+use Rattle.knx_top.proofs.Calls.Assigns.{runs_assign_sim}
 use Rattle.knx_top.proofs.commands.assign.call_sim.Goals as goal
 
 pub returns-clause-told : goal.returns-clause-told

@@ -1,6 +1,6 @@
 use Rattle.std.proofs.Common.{subst, ◌∙◌}
 use Rattle.call_parts.specs.Given.{EndsAs}
-use Rattle.knx_top.proofs.commands.Assigns.{given_sim}
+use Rattle.knx_top.proofs.Calls.Assigns.{given_sim}
 use Rattle.knx_top.proofs.commands.assign.give_on.Goals as goal
 
 pub returns-in-Ok : goal.returns-in-Ok

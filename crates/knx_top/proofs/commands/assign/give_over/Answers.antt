@@ -1,4 +1,4 @@
-use Rattle.knx_top.proofs.commands.Assigns.{taken_back}
+use Rattle.knx_top.proofs.Calls.Assigns.{taken_back}
 use Rattle.knx_top.proofs.commands.assign.give_over.Goals as goal
 
 pub returns-clause-tells : goal.returns-clause-tells

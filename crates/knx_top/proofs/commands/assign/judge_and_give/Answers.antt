@@ -1,5 +1,5 @@
-use Rattle.knx_top.specs.commands.Assign.{assign_sim_words_of, judged_units}
-use Rattle.knx_top.proofs.commands.Assigns.{begun_new, gives_or, units_unread}
+use Rattle.knx_top.specs.commands.assign.{assign_sim_words_of, judged_units}
+use Rattle.knx_top.proofs.Calls.Assigns.{begun_new, gives_or, units_unread}
 use Rattle.knx_top.proofs.commands.assign.judge_and_give.Goals as goal
 
 pub give_on-requires-clause-new : goal.give_on-requires-clause-new

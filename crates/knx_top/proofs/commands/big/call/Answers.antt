@@ -1,13 +1,14 @@
 use Rattle.std.proofs.Common.{Bool, [], refl, sym, ap, subst}
 use Rattle.line_model.specs.Watched.{watch_in}
 use Rattle.call_parts.specs.Ending.{report_in}
-use Rattle.call_parts.specs.Options.{SimOptions, no_options}
+use Rattle.call_parts.specs.declared.options.SimOptions.{SimOptions}
+use Rattle.call_parts.specs.Options.{no_options}
 use Rattle.knx_top.specs.Watched.{TellsOfJobs, TellsWatcher, WhereRun}
 use Rattle.knx_top.proofs.Watches.{devices_in, made_so, tells_summed}
 use Rattle.knx_model.specs.Counts.{counts_of}
 use Rattle.knx_top.proofs.Present.{devices_there}
-use Rattle.knx_top.proofs.commands.Bigs.{order_made, runs_made, stops_wanting}
-use Rattle.knx_top.specs.commands.Big.{commission_made, made}
+use Rattle.knx_top.proofs.Calls.Bigs.{order_made, runs_made, stops_wanting}
+use Rattle.knx_top.specs.commands.big.{commission_made, made}
 use Rattle.call_parts.specs.declared.ending.End.TheVariants.{Stops}
 use Rattle.knx_top.proofs.commands.big.call.Goals as goal
 

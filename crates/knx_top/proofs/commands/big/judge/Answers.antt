@@ -3,8 +3,8 @@ use Rattle.knx_model.specs.Counts.{counts_of}
 use Rattle.knx_model.specs.Rules.{first_broken}
 use Rattle.call_words.specs.declared.input_file.InputFile.TheVariants as file
 use Rattle.call_parts.specs.Judged.{installed}
-use Rattle.knx_top.specs.commands.Big.{made}
-use Rattle.knx_top.proofs.commands.Migrates.{judged_sound}
+use Rattle.knx_top.specs.commands.big.{made}
+use Rattle.knx_top.proofs.Calls.Migrates.{judged_sound}
 use Rattle.knx_top.proofs.commands.big.judge.Goals as goal
 
 pub returns-clause-counts : goal.returns-clause-counts

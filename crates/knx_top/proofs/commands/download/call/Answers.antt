@@ -1,8 +1,8 @@
 use Rattle.call_parts.specs.Ending.{report_in}
-use Rattle.knx_top.specs.commands.Download.{download_words_of}
+use Rattle.knx_top.specs.commands.download.{download_words_of}
 use Rattle.knx_top.proofs.Watches.{download_read}
 use Rattle.call_parts.specs.Project.{project_words_of}
-use Rattle.knx_top.proofs.commands.Downloads.{runs_dialled}
+use Rattle.knx_top.proofs.Calls.Downloads.{runs_dialled}
 use Rattle.knx_top.proofs.commands.download.call.Goals as goal
 
 pub returns-clause-told : goal.returns-clause-told

@@ -1,7 +1,7 @@
 use Rattle.call_parts.specs.Ending.{report_in}
-use Rattle.knx_top.specs.commands.Download.{download_words_of}
+use Rattle.knx_top.specs.commands.download.{download_words_of}
 use Rattle.knx_top.proofs.Watches.{download_tested}
-use Rattle.knx_top.proofs.commands.Downloads.{dialled_run, dialled_stop, of_ready}
+use Rattle.knx_top.proofs.Calls.Downloads.{dialled_run, dialled_stop, of_ready}
 use Rattle.knx_top.proofs.commands.download.download.Goals as goal
 
 pub dial_and_run-requires-clause-few : goal.dial_and_run-requires-clause-few

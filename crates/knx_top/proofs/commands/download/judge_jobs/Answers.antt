@@ -1,6 +1,6 @@
 use Rattle.std.proofs.Common.{sym, ◌∙◌}
-use Rattle.knx_top.specs.commands.Download.{download_words_of}
-use Rattle.knx_top.proofs.commands.Downloads.{known_ready, unknown_stops}
+use Rattle.knx_top.specs.commands.download.{download_words_of}
+use Rattle.knx_top.proofs.Calls.Downloads.{known_ready, unknown_stops}
 use Rattle.knx_top.proofs.commands.download.judge_jobs.Goals as goal
 
 pub returns-then-not-are_known-clause-err : goal.returns-then-not-are_known-clause-err

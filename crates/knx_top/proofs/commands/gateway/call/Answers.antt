@@ -1,5 +1,5 @@
-use Rattle.knx_top.specs.commands.Gateway.{gateway_words_of}
-use Rattle.knx_top.proofs.commands.Gateways.{begins_no_run, runs_gateway}
+use Rattle.knx_top.specs.commands.gateway.{gateway_words_of}
+use Rattle.knx_top.proofs.Calls.Gateways.{begins_no_run, runs_gateway}
 use Rattle.knx_top.proofs.commands.gateway.call.Goals as goal
 
 pub returns-clause-told : goal.returns-clause-told

@@ -1,5 +1,5 @@
-use Rattle.knx_top.specs.commands.Gateway.{gateway_words_of}
-use Rattle.knx_top.proofs.commands.Gateways.{gateway_stop, of_line, served_line}
+use Rattle.knx_top.specs.commands.gateway.{gateway_words_of}
+use Rattle.knx_top.proofs.Calls.Gateways.{gateway_stop, of_line, served_line}
 use Rattle.knx_top.proofs.commands.gateway.gateway.Goals as goal
 
 pub bind_and_serve-requires-clause-sound : goal.bind_and_serve-requires-clause-sound

@@ -1,5 +1,5 @@
-use Rattle.knx_top.specs.commands.Gateway.{gateway_words_of}
-use Rattle.knx_top.proofs.commands.Gateways.{line_for}
+use Rattle.knx_top.specs.commands.gateway.{gateway_words_of}
+use Rattle.knx_top.proofs.Calls.Gateways.{line_for}
 use Rattle.knx_top.proofs.commands.gateway.judge_script.Goals as goal
 
 pub returns-clause-ok : goal.returns-clause-ok

@@ -1,7 +1,7 @@
 use Rattle.std.proofs.Common.{◌∙◌}
 use Rattle.call_parts.proofs.Counts.{read_still}
-use Rattle.knx_top.specs.commands.Gateway.{gateway_words_of}
-use Rattle.knx_top.proofs.commands.Gateways.{gateway_rose}
+use Rattle.knx_top.specs.commands.gateway.{gateway_words_of}
+use Rattle.knx_top.proofs.Calls.Gateways.{gateway_rose}
 use Rattle.knx_top.proofs.commands.gateway.read_gateway_texts.Goals as goal
 
 pub returns-clause-read : goal.returns-clause-read

@@ -2,7 +2,7 @@ use Rattle.std.proofs.Common.{sym, ap, ◌∙◌}
 use Rattle.knx_top.proofs.Answered.{none_taken}
 use Rattle.knx_top.proofs.ServedRuns.{serving}
 use Rattle.call_parts.specs.Identity.{about_gateway, own_endpoint}
-use Rattle.knx_top.specs.commands.Gateway.{end_of_serving}
+use Rattle.knx_top.specs.commands.gateway.{end_of_serving}
 use Rattle.knx_top.proofs.commands.gateway.serve.Goals as goal
 
 pub new-door-requires-clause-none : goal.new-door-requires-clause-none

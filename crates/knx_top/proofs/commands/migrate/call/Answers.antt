@@ -1,5 +1,5 @@
 use Rattle.call_parts.specs.Ending.{end_told}
-use Rattle.knx_top.specs.commands.Migrate.{IsMigratedText}
+use Rattle.knx_top.specs.commands.migrate.{IsMigratedText}
 use Rattle.call_parts.specs.Project.{project_words_of}
 use Rattle.call_parts.proofs.Projects.{tells_so}
 use Rattle.knx_top.proofs.commands.migrate.call.Goals as goal

@@ -1,4 +1,4 @@
-use Rattle.knx_top.proofs.commands.Migrates.{text_of_made}
+use Rattle.knx_top.proofs.Calls.Migrates.{text_of_made}
 use Rattle.knx_top.proofs.commands.migrate.migrated_text.Goals as goal
 
 pub returns : goal.returns

@@ -1,5 +1,5 @@
 use Rattle.call_parts.specs.Project.{installation_of}
-use Rattle.knx_top.proofs.commands.Migrates.{told_of}
+use Rattle.knx_top.proofs.Calls.Migrates.{told_of}
 use Rattle.knx_top.proofs.commands.migrate.told.Goals as goal
 
 pub returns : goal.returns

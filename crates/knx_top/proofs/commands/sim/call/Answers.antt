@@ -1,8 +1,8 @@
 use Rattle.std.proofs.Common.{refl}
 use Rattle.call_parts.specs.Ending.{report_in}
-use Rattle.knx_top.specs.commands.Sim.{sim_words_of}
+use Rattle.knx_top.specs.commands.sim.{sim_words_of}
 use Rattle.knx_top.proofs.Watches.{sim_read}
-use Rattle.knx_top.proofs.commands.Sims.{runs_script}
+use Rattle.knx_top.proofs.Calls.Sims.{runs_script}
 use Rattle.knx_top.proofs.commands.sim.call.Goals as goal
 
 pub returns-clause-told : goal.returns-clause-told

@@ -1,4 +1,3 @@
-use Rattle.call_parts.specs.Names.{options_of}
 use Rattle.knx_top.proofs.Ordered.{strange_ends}
 use Rattle.knx_top.proofs.commands.sim.judge.judge_script.Goals as goal
 
@@ -15,4 +14,4 @@ pub returns-in-Ok-clause-err : goal.returns-in-Ok-clause-err
 returns-in-Ok-clause-err g c = c.judge_jobs.ensures.err
 
 pub returns-in-Err-clause-err : goal.returns-in-Err-clause-err
-returns-in-Err-clause-err g c = strange_ends (options_of c.args.options.now) c.args.new.now c.args.old.now c.args.script.now.lines c.in-Err.why c.in-Err.ensures.refused
+returns-in-Err-clause-err g c = strange_ends c.args.options.now c.args.new.now c.args.old.now c.args.script.now.lines c.in-Err.why c.in-Err.ensures.refused

@@ -2,8 +2,8 @@ use Rattle.std.proofs.Common.{arith}
 use Rattle.call_parts.specs.Ending.{report_in}
 use Rattle.knx_top.proofs.Present.{devices_there}
 use Rattle.knx_top.proofs.Watches.{sim_tested}
-use Rattle.knx_top.specs.commands.Sim.{sim_words_of}
-use Rattle.knx_top.proofs.commands.Sims.{decided_run, decided_stop, of_order}
+use Rattle.knx_top.specs.commands.sim.{sim_words_of}
+use Rattle.knx_top.proofs.Calls.Sims.{decided_run, decided_stop, of_order}
 use Rattle.knx_top.proofs.commands.sim.run.commission.Goals as goal
 
 pub run-requires-clause-new : goal.run-requires-clause-new

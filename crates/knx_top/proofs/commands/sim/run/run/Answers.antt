@@ -6,14 +6,15 @@ use Rattle.knx_model.specs.declared.config.Image.{Image}
 use Rattle.line_model.specs.declared.group.GroupTurn.{GroupTurn}
 use Rattle.line_model.specs.Log.{Job}
 use Rattle.call_parts.specs.Jobs.{seen_job}
-use Rattle.call_parts.specs.Options as asked
+use Rattle.call_parts.specs.declared.options.SimOptions.{SimOptions}
+use Rattle.call_parts.specs.Options.{workers_of}
 use Rattle.hub_core.specs.Commissioned.{log_of}
 use Rattle.knx_top.specs.Ran.{FaultsOfLine}
 use Rattle.bus_sim.proofs.New.{new_line}
 use Rattle.knx_top.proofs.Undisturbed.{Laws}
 use Rattle.knx_top.proofs.Driven.{counts_on_line, driven, jobs_seen, still_one}
 use Rattle.knx_top.proofs.Shows.{fault_so, runs_so, still_there}
-use Rattle.knx_top.specs.commands.Sim.{ShowsRun}
+use Rattle.knx_top.specs.commands.sim.{ShowsRun}
 use Rattle.knx_top.specs.Watched.{TellsWatcher}
 use Rattle.knx_top.proofs.Watches.{devices_in, tells_shown}
 use Rattle.knx_top.proofs.commands.sim.run.run.Goals as goal
@@ -49,9 +50,9 @@ returns-clause-runs g c = λ commission is options.
       check_costs = c.plans_cost_by_their_lists.ensures.checks;
     } in
     runs_so commission c.args.sim.now line report c.args.order.jobs c.len-turn_count.result c.args.order.devices log c.end_of_run.result
-    (driven laws commission c.args.order workers c.args.order.turns line (length line.run.events) report is (c.count.ensures.value ∙ c.workers.ensures ∙ ap (λ (o : asked.SimOptions). asked.workers_of o) (sym options) ∙ sym is.workers) (is.prepared.turns ∙ sym is.turns) c.requires.one c.commission-line.ensures.commissioned.grows c.commission-line.ensures.commissioned.script c.keeps-2.ensures.fresh c.keeps-2.ensures.legal c.keeps-2.ensures.follows c.requires.good c.commission-line.ensures.commissioned.tells
+    (driven laws commission c.args.order workers c.args.order.turns line (length line.run.events) report is (c.count.ensures.value ∙ c.workers.ensures ∙ ap (λ (o : SimOptions). workers_of o) (sym options) ∙ sym is.workers) (is.prepared.turns ∙ sym is.turns) c.requires.one c.commission-line.ensures.commissioned.grows c.commission-line.ensures.commissioned.script c.keeps-2.ensures.fresh c.keeps-2.ensures.legal c.keeps-2.ensures.follows c.requires.good c.commission-line.ensures.commissioned.tells
     c.commission-line.ensures.tries counts)
-    is.prepared.devices (c.len-turn_count.ensures ∙ ap (λ (ts : List GroupTurn). length ts) (is.prepared.turns ∙ sym is.turns)) (ap (λ (o : asked.SimOptions). o.log) (sym options))
+    is.prepared.devices (c.len-turn_count.ensures ∙ ap (λ (ts : List GroupTurn). length ts) (is.prepared.turns ∙ sym is.turns)) (ap (λ (o : SimOptions). o.log) (sym options))
     (subst (λ (devices : List (IndAddr × Option Image)). ShowsRun line.run report c.args.order.jobs c.len-turn_count.result devices log c.end_of_run.result) c.as_slice.ensures c.end_of_run.ensures)
 
 pub returns-clause-link : goal.returns-clause-link
