@@ -18,10 +18,6 @@
 
 mod call;
 mod fault;
-#[cfg(test)]
-mod line;
-#[cfg(test)]
-mod many;
 mod outside;
 mod text;
 
