@@ -319,3 +319,30 @@ def stranger_disconnects(tried):
 @case("an acknowledgement that a stranger at another host forges isn't taken for the gateway's")
 def stranger_acknowledges(tried):
     forged(tried, lambda octets: acknowledgement(1, octets[8]), "127.0.0.77", loses=True)
+
+
+@case("a stranger's hundred datagrams a second don't stop time: a request that isn't acknowledged comes again after a second")
+def stranger_stops_no_time(tried):
+    lost, sent, over = [], [], threading.Event()
+
+    def lie(way, k, octets):
+        if way == "up" and service(octets) == REQUEST and (octets in lost or k >= 80 and not lost):
+            sent.append(time.monotonic())
+            if not lost:
+                lost.append(octets)
+                threading.Thread(target=pour, daemon=True).start()
+                return []
+            over.set()
+        return [octets]
+
+    def pour():
+        while not over.wait(0.01):
+            stranger.sendto(b"\x06", (HOST, relay.client[1]))
+
+    with served(tried.prog) as line, endpoint("127.0.0.77") as stranger, Relay(line.port, lie) as relay:
+        text, status = download(tried.prog, relay.port)
+        over.set()
+        want(status == 0 and line.state() == "new", f"{text!r} {status}")
+        again = sent[1] - sent[0]
+        want(0.8 < again < 2, f"the request again after {again:.2f} s")
+        return f"the request again after {again:.2f} s"
