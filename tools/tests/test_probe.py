@@ -176,7 +176,8 @@ class Probe(ToolTest):
     def test_broken_off(self):
         for number in (signal.SIGINT, signal.SIGTERM, signal.SIGHUP):
             self.served(Device(is_secure=True))
-            process = subprocess.Popen([TOOLS / "probe", self.at, "1.1.10"], stdout=subprocess.PIPE, stderr=subprocess.PIPE, text=True)
+            # whoever started the tests may have had the signal ignored
+            process = subprocess.Popen([TOOLS / "probe", self.at, "1.1.10"], stdout=subprocess.PIPE, stderr=subprocess.PIPE, text=True, preexec_fn=lambda: signal.signal(number, signal.SIG_DFL))
             while not self.gateway.puts:
                 time.sleep(0.01)
             time.sleep(0.1)
