@@ -17,7 +17,7 @@ use Rattle.tunnel_link.specs.Alone as tunnel
 use Rattle.tunnel_link.specs.Alone.{EndsNone, LeavesAlone, SendsOnce}
 use Rattle.tunnel_link.specs.declared.came.Loss.{Loss}
 use Rattle.tunnel_link.specs.Goes.{GoesOn}
-use Rattle.tunnel_link.specs.Paces.{TakesNoTime, BeatsInTime, PollsWithin}
+use Rattle.tunnel_link.specs.Paces.{TakesNoTime, BeatsInTime, HasTriesLeft, PollsWithin}
 use Rattle.tunnel_link.specs.Rights.{WhereTold}
 use Rattle.hub_work.specs.declared.closing.Closing.{Closing}
 use Rattle.hub_work.specs.declared.work.Work.{Work}
@@ -30,11 +30,11 @@ use Rattle.hub_work.specs.Polls.{LastsOnceSent}
 use Rattle.hub_work.specs.Works.{tasks}
 use Rattle.hub_work.proofs.Growing.{AreAbove}
 use Rattle.hub_core.specs.Closes.{ClosesBy, HasListened, has_asked}
-use Rattle.hub_core.specs.Discipline.{EachSo, Hastens}
-use Rattle.hub_core.specs.Keeps.{IsAllOver, Keeps}
+use Rattle.hub_core.specs.Discipline.{EachSo, IsPrompt, Hastens}
+use Rattle.hub_core.specs.Keeps.{IsAllOver, Runs, Keeps}
 use Rattle.hub_core.proofs.Counting.{some_is, told_before}
 use Rattle.hub_core.proofs.Following.{newest}
-use Rattle.hub_core.proofs.Hastes.{stays_open, all_finished, alone_hastens, seek_hastens, leave_hastens, poll_hastens, each_prompt, each_over}
+use Rattle.hub_core.proofs.Hastes.{stays_open, all_finished, alone_hastens, seek_hastens, leave_hastens, poll_goes, poll_hastens, each_prompt, each_over}
 use Rattle.hub_core.proofs.Keeps.{HastensOn, Opens, books_later}
 use Rattle.hub_core.proofs.Requests.{Each}
 use Rattle.hub_core.proofs.Telling.{each_added}
@@ -91,23 +91,40 @@ sent_before p s w met f none keeps law now newest_is has_place placed longest se
     let here : Fits jobs w now (place_of s) (moments old) = subst (λ n. Fits jobs w n (place_of s) (moments old)) (sym (newest_is old e ∙ newest old)) fits in
     sent jobs old at (books_later (place_of s) at w (omega (arith, lt)) k.books) (law jobs w now (place_of s) at (moments old) k.books here (omega (arith, lt))) (placed old e) (newest_is old e) lasts
 
-module _ (s t : Story) (w : Work) (longest : ℕ) (within : Growing (PollsWithin (clock_of s) longest) s t) (beats : Growing (tunnel.Each BeatsInTime) s t) (alone : Growing (tunnel.Each LeavesAlone) s t)
-    (sent : (jobs : List Job) → AreJobsWith (tasks w) jobs → (old : List Placed) → places_in s ≡ Some old → (at : ℕ) → place_of s < at → longest ≢ 0 → HasSent jobs w.journal.entries old at) where
+-- and there is no cause to end where it begins
+pub runs_before : (p : ℕ) (s : Story) (w : Work) (met : Bool) (f : Option HubFault) → f ≡ None → Keeps p s w met f → (jobs : List Job) → AreJobsWith (tasks w) jobs → (old : List Placed) → places_in s ≡ Some old → Runs jobs w met (place_of s) old
+runs_before p s w met f none keeps jobs of old e = (keeps.told jobs of old e).runs none
+
+module _ (s t : Story) (w : Work) (met : Bool) (longest : ℕ) (within : Growing (PollsWithin (clock_of s) longest) s t) (beats : Growing (tunnel.Each BeatsInTime) s t) (tries : Growing (tunnel.Each (HasTriesLeft (clock_of s))) s t)
+    (alone : Growing (tunnel.Each LeavesAlone) s t) (sent : (jobs : List Job) → AreJobsWith (tasks w) jobs → (old : List Placed) → places_in s ≡ Some old → (at : ℕ) → place_of s < at → longest ≢ 0 → HasSent jobs w.journal.entries old at)
+    (runs : (jobs : List Job) → AreJobsWith (tasks w) jobs → (old : List Placed) → places_in s ≡ Some old → Runs jobs w met (place_of s) old) where
+  abbrev Quick : List Placed → List Placed → Type 0
+  Quick = Both (tunnel.Each BeatsInTime) (Both (tunnel.Each (HasTriesLeft (clock_of s))) (tunnel.Each LeavesAlone))
+
   abbrev Polled : List Placed → List Placed → Type 0
-  Polled = Both (PollsWithin (clock_of s) longest) (Both (tunnel.Each BeatsInTime) (tunnel.Each LeavesAlone))
+  Polled = Both (PollsWithin (clock_of s) longest) Quick
 
   polled : Growing Polled s t
-  polled = both (PollsWithin (clock_of s) longest) (Both (tunnel.Each BeatsInTime) (tunnel.Each LeavesAlone)) s t within (both (tunnel.Each BeatsInTime) (tunnel.Each LeavesAlone) s t beats alone)
+  polled =
+      both (PollsWithin (clock_of s) longest) Quick s t within
+      (both (tunnel.Each BeatsInTime) (Both (tunnel.Each (HasTriesLeft (clock_of s))) (tunnel.Each LeavesAlone)) s t beats (both (tunnel.Each (HasTriesLeft (clock_of s))) (tunnel.Each LeavesAlone) s t tries alone))
+
+  hastens_so : (jobs : List Job) → AreJobsWith (tasks w) jobs → (old added : List Placed) → places_in s ≡ Some old → AreAbove (place_of s) added → Each (IsPrompt jobs w.telegrams.turns w.journal.entries) added old → Polled old added
+      → Each (Hastens (clock_of s) jobs w.telegrams.turns w.journal.entries) added old
+  hastens_so jobs with_tasks old added es above prompt h =
+      let stands : Runs jobs w met (place_of s) old = runs jobs with_tasks old es in
+      poll_hastens (clock_of s) jobs w.telegrams.turns w.journal.entries (place_of s) longest old (sent jobs with_tasks old es) added prompt h.0 above h.1.0 h.1.1.1
+      (poll_goes (clock_of s) jobs w.telegrams.turns w.journal.entries old stands.no_flood stands.right_line longest added h.0 h.1.1.0)
 
   hastens_prompt : Growing AllPrompt s t → HastensOn s t w
   hastens_prompt prompt =
       hastens_by s t w (Both AllPrompt Polled) (both AllPrompt Polled s t prompt polled)
-      (λ jobs with_tasks are old added es above h. poll_hastens (clock_of s) jobs w.telegrams.turns w.journal.entries (place_of s) longest old (sent jobs with_tasks old es) added (each_prompt (clock_of s) jobs w.telegrams.turns w.journal.entries added old h.0) h.1.0 above h.1.1.0 h.1.1.1)
+      (λ jobs with_tasks are old added es above h. hastens_so jobs with_tasks old added es above (each_prompt (clock_of s) jobs w.telegrams.turns w.journal.entries added old h.0) h.1)
 
   hastens_over : ((jobs : List Job) → AreJobsOf w.reservation.devices jobs → IsAllOver jobs w.telegrams.turns w.journal.entries) → HastensOn s t w
   hastens_over over =
       hastens_by s t w Polled polled
-      (λ jobs with_tasks are old added es above h. poll_hastens (clock_of s) jobs w.telegrams.turns w.journal.entries (place_of s) longest old (sent jobs with_tasks old es) added (each_over (clock_of s) jobs w.telegrams.turns w.journal.entries added old (over jobs are)) h.0 above h.1.0 h.1.1)
+      (λ jobs with_tasks are old added es above h. hastens_so jobs with_tasks old added es above (each_over (clock_of s) jobs w.telegrams.turns w.journal.entries added old (over jobs are)) h)
 
   -- where the closing hasn't begun it is prompt
   pub hastens_poll : (w.closing ≡ None → Growing AllPrompt s t) → ((w.closing ≡ None → ⊥) → (jobs : List Job) → AreJobsOf w.reservation.devices jobs → IsAllOver jobs w.telegrams.turns w.journal.entries) → HastensOn s t w

@@ -1,6 +1,7 @@
 -- Which entries that a call adds come promptly and without a loss of time: those of a call that polls nothing, of a new endpoint before the channel is asked to
--- end, of the end of the channel once all is over, and of a poll that may last only where all was sent that can be.
-use Rattle.std.proofs.Common.{◌≡◌, ◌≢◌, ◌⊎◌, inl, inr, ℕ, ◌+◌, ◌<◌, ◌≤◌, Bool, true, false, min, List, [], ◌∷◌, ◌++◌, refl, sym, subst, ◌∙◌, arith}
+-- end, of the end of the channel once all is over, and of a poll that may last only where all was sent that can be. And that a poll that begins where there is no
+-- cause to end is made while there is none.
+use Rattle.std.proofs.Common.{◌≡◌, ◌≢◌, ◌⊎◌, inl, inr, ℕ, ◌+◌, ◌<◌, ◌≤◌, Bool, true, false, min, List, [], ◌∷◌, ◌++◌, None, refl, sym, ap, subst, ◌∙◌, arith}
 use Rattle.std.specs.Prelude.{◌&&◌, nat_lt}
 use Rattle.std.specs.List.{AllByRecursion}
 use Rattle.std.proofs.lemmas.Bool.Decides.{nat_tests}
@@ -10,19 +11,22 @@ use Rattle.line_model.specs.Record.{Item, Put, Renewed, Got, Quiet, Entry, Place
 use Rattle.line_model.specs.LinkStory.{Clock, Exact, Running, newest_time, AreWaits}
 use Rattle.line_model.specs.ClientView.{channel}
 use Rattle.line_model.specs.Closing.{asks_to_end, is_open}
-use Rattle.line_model.specs.Haste.{is_beat_overdue, is_wait, takes_time, has_just_waited, HasSent}
+use Rattle.line_model.specs.Faults.{datagrams_taken, flood, first_tunnel, first_elsewhere}
+use Rattle.line_model.specs.Haste.{is_beat_overdue, is_wait, takes_time, has_just_waited, HasSent, GoesOnRightly}
 use Rattle.line_model.specs.Leaves.{StaysOpen, IsFinished}
 use Rattle.line_model.specs.Log.{Job, JobUnfinished, TurnUnfinished, Over, state_of, JobState, Untaken, Held}
 use Rattle.line_model.specs.Renews.{PollsPromptly, to_poll_before}
 use Rattle.tunnel_link.specs.Adds.{AllPrompt}
 use Rattle.tunnel_link.specs.Alone as tunnel
 use Rattle.tunnel_link.specs.Alone.{EndsNone, LeavesAlone, SendsOnce, Nothing, Once}
-use Rattle.tunnel_link.specs.Paces.{TakesNoTime, BeatsInTime, PollsOnce, NoPoll, Polls, PollsAndSends, PollsWithin}
+use Rattle.tunnel_link.specs.Paces.{TakesNoTime, BeatsInTime, HasTriesLeft, PollsOnce, NoPoll, Polls, PollsAndSends, PollsWithin}
+use Rattle.tunnel_link.proofs.Growth.{quiet_places}
 use Rattle.tunnel_link.proofs.Polls.{newest_last}
 use Rattle.hub_work.proofs.Growing.{AreAbove}
 use Rattle.hub_core.specs.Discipline.{IsPrompt, Hastens, LosesNone}
 use Rattle.hub_core.specs.Keeps.{IsAllOver}
 use Rattle.hub_core.proofs.Requests.{Each}
+use Rattle.hub_core.proofs.Taking.{quiet_not_got, none_counted, none_opened}
 
 -- ---- the open channel isn't asked to end
 
@@ -73,6 +77,9 @@ no_wait : (r : List Entry) (x : Entry) → is_poll x.what ≡ false → takes_ti
 no_wait r x none takes = let z : true ≡ false = sym (waits_poll x.what (and_parts (is_wait x.what) (nat_lt (newest_time r) x.now) takes).0) ∙ none in cc
 
 module _ (clock : Clock) (jobs : List Job) (turns : List GroupTurn) (log : List LogEntry) where
+  abbrev Goes : List Placed → Placed → Type 0
+  Goes older p = GoesOnRightly clock jobs log (entries older) p.what
+
   abbrev Busy : List Placed → Placed → Type 0
   Busy older p = takes_time (entries older) p.what ≡ true → has_just_waited (entries older) ≡ false → HasSent jobs log older p.at
 
@@ -96,6 +103,7 @@ module _ (clock : Clock) (jobs : List Job) (turns : List GroupTurn) (log : List 
   still older p t ends seeks = record {
     prompt = λ left poll. polls_not poll;
     loses_none = by_clock clock older p (λ exact takes first. absurd (no_wait (entries older) p.what t.polls_not takes)) (λ exact. (let s = t.still in omega (arith, s))) (λ poll. polls_not poll) ends seeks;
+    goes_on = λ poll. polls_not poll;
   }
     where
       polls_not : {X : Type 0} → is_poll p.what.what ≡ true → X
@@ -120,6 +128,32 @@ module _ (clock : Clock) (jobs : List Job) (turns : List GroupTurn) (log : List 
   leave_hastens [] old t Nothing finished unasked = tt
   leave_hastens (p ∷ (q ∷ added)) old t h finished unasked = elim h [ ]
   leave_hastens (p ∷ []) old t (Once q at seeks) finished unasked = (still old p t.0 (λ asks up. (finished, unasked)) (renews_not p.what seeks.renews_not), tt)
+
+  -- ---- a poll goes on where there was no cause to end: what a datagram alone changes stays as it is in its waits
+
+  module _ (old : List Placed) (few : JobUnfinished jobs log → datagrams_taken (entries old) < flood) (line : first_elsewhere jobs (first_tunnel (entries old)) ≡ None) where
+    one_goes : (ws : List Placed) → AreWaits (newest_time (entries old)) (entries ws) → (p : Placed) → HasTriesLeft clock (entries (ws ++ old)) p.what → Goes (ws ++ old) p
+    one_goes ws h p tries =
+        let none = quiet_not_got ws (quiet_places (newest_time (entries old)) ws h) in
+        λ poll here. record {
+          tries_left = tries poll here;
+          no_flood = λ u. subst (λ (n : ℕ). n < flood) (sym (none_counted ws old none)) (few u);
+          right_line = ap (first_elsewhere jobs) (none_opened ws old none) ∙ line;
+        }
+
+    waits_go : (ws : List Placed) → AreWaits (newest_time (entries old)) (entries ws) → tunnel.Each (HasTriesLeft clock) old ws → Each Goes ws old
+    waits_go [] h tries = tt
+    waits_go (p ∷ ws) h tries = (one_goes ws h.2 p tries.0, waits_go ws h.2 tries.1)
+
+    once_goes : (rest ws : List Placed) → PollsOnce rest → AreWaits (newest_time (entries old)) (entries ws) → tunnel.Each (HasTriesLeft clock) old (rest ++ ws) → Each Goes (rest ++ ws) old
+    once_goes rest ws NoPoll h tries = waits_go ws h tries
+    once_goes rest ws (Polls p) h tries = (one_goes ws h p tries.0, waits_go ws h tries.1)
+    once_goes rest ws (PollsAndSends s p none) h tries = ((λ poll. absurd (let z : true ≡ false = sym poll ∙ none in cc)), (one_goes ws h p tries.1.0, waits_go ws h tries.1.1))
+
+    pub poll_goes : (longest : ℕ) (added : List Placed) → PollsWithin clock longest old added → tunnel.Each (HasTriesLeft clock) old added → Each Goes added old
+    poll_goes longest added within tries =
+        subst (λ (l : List Placed). Each Goes l old) (sym within.parts)
+        (once_goes within.rest within.waits within.once within.times (subst (λ (l : List Placed). tunnel.Each (HasTriesLeft clock) old l) within.parts tries))
 
   -- ---- of a poll
 
@@ -161,18 +195,20 @@ module _ (clock : Clock) (jobs : List Job) (turns : List GroupTurn) (log : List 
         (once_busy within.rest within.waits within.once within.times (subst AreWithin within.parts (within.in_time exact)) (subst (AreAbove n) within.parts above))
 
     all_hasten : (added : List Placed) → Each (IsPrompt jobs turns log) added old → (clock ≡ Exact → Each Busy added old) → (clock ≡ Exact → tunnel.Each (λ r x. x.now ≤ newest_time r + 100) old added) → tunnel.Each BeatsInTime old added → tunnel.Each LeavesAlone old added
-        → Each (Hastens clock jobs turns log) added old
-    all_hasten [] prompt sends short beats alone = tt
-    all_hasten (p ∷ added) prompt sends short beats alone = (
+        → Each Goes added old → Each (Hastens clock jobs turns log) added old
+    all_hasten [] prompt sends short beats alone goes = tt
+    all_hasten (p ∷ added) prompt sends short beats alone goes = (
       record {
         prompt = prompt.0;
         loses_none = by_clock clock (added ++ old) p (λ exact. (sends exact).0) (λ exact. (short exact).0) beats.0 (shut (entries (added ++ old)) p.what alone.0.ends_none) (renews_not p.what alone.0.seeks_none.renews_not);
+        goes_on = goes.0;
       },
-      all_hasten added prompt.1 (λ exact. (sends exact).1) (λ exact. (short exact).1) beats.1 alone.1,
+      all_hasten added prompt.1 (λ exact. (sends exact).1) (λ exact. (short exact).1) beats.1 alone.1 goes.1,
     )
 
-    pub poll_hastens : (added : List Placed) → Each (IsPrompt jobs turns log) added old → PollsWithin clock longest old added → AreAbove n added → tunnel.Each BeatsInTime old added → tunnel.Each LeavesAlone old added → Each (Hastens clock jobs turns log) added old
-    poll_hastens added prompt within above beats alone = all_hasten added prompt (λ exact. busy exact added within above) within.short beats alone
+    pub poll_hastens : (added : List Placed) → Each (IsPrompt jobs turns log) added old → PollsWithin clock longest old added → AreAbove n added → tunnel.Each BeatsInTime old added → tunnel.Each LeavesAlone old added → Each Goes added old
+        → Each (Hastens clock jobs turns log) added old
+    poll_hastens added prompt within above beats alone goes = all_hasten added prompt (λ exact. busy exact added within above) within.short beats alone goes
 
   -- ---- promptly: each poll was, or nothing is left to be done
 

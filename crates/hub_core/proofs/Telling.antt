@@ -7,7 +7,7 @@ use Rattle.line_model.specs.declared.log.LogEntry.{LogEntry}
 use Rattle.line_model.specs.Record.{Placed}
 use Rattle.line_model.specs.Log.{Job, IsLog, log_before}
 use Rattle.line_model.specs.Asks.{EachRight}
-use Rattle.line_model.specs.Haste.{HastenBy}
+use Rattle.line_model.specs.Haste.{HastenBy, LosesNoTimes, ActInOrder, GoOnRightly}
 use Rattle.line_model.specs.LinkStory.{Clock, Exact, Running}
 use Rattle.hub_work.proofs.Growing.{AreAbove, AreUpto, told_grown, before_new}
 use Rattle.hub_core.proofs.AtRest.{rests_grown}
@@ -38,12 +38,22 @@ pub each_right : (clock : Clock) (jobs : List Job) (turns : List GroupTurn) (log
 each_right clock jobs turns log [] asks hastens = tt
 each_right clock jobs turns log (p ∷ older) asks hastens = (record { asks = asks.0.right; prompt = hastens.0.prompt }, each_right clock jobs turns log older asks.1 hastens.1)
 
--- without a loss of time
-pub loses_none : (clock : Clock) (jobs : List Job) (turns : List GroupTurn) (log : List LogEntry) (places : List Placed) → EachSo (Hastens clock jobs turns) log places → HastenBy clock jobs turns log places
-loses_none Exact jobs turns log [] hastens = tt
-loses_none Exact jobs turns log (p ∷ older) hastens = (hastens.0.loses_none, loses_none Exact jobs turns log older hastens.1)
-loses_none Running jobs turns log [] hastens = tt
-loses_none Running jobs turns log (p ∷ older) hastens = (hastens.0.loses_none, loses_none Running jobs turns log older hastens.1)
+-- without a loss of time, and only while there was no cause to end
+loses_no_time : (jobs : List Job) (turns : List GroupTurn) (log : List LogEntry) (places : List Placed) → EachSo (Hastens Exact jobs turns) log places → LosesNoTimes jobs turns log places
+loses_no_time jobs turns log [] hastens = tt
+loses_no_time jobs turns log (p ∷ older) hastens = (hastens.0.loses_none, loses_no_time jobs turns log older hastens.1)
+
+acts_in_order : (jobs : List Job) (turns : List GroupTurn) (log : List LogEntry) (places : List Placed) → EachSo (Hastens Running jobs turns) log places → ActInOrder jobs turns log places
+acts_in_order jobs turns log [] hastens = tt
+acts_in_order jobs turns log (p ∷ older) hastens = (hastens.0.loses_none, acts_in_order jobs turns log older hastens.1)
+
+goes_on_rightly : (clock : Clock) (jobs : List Job) (turns : List GroupTurn) (log : List LogEntry) (places : List Placed) → EachSo (Hastens clock jobs turns) log places → GoOnRightly clock jobs log places
+goes_on_rightly clock jobs turns log [] hastens = tt
+goes_on_rightly clock jobs turns log (p ∷ older) hastens = (hastens.0.goes_on, goes_on_rightly clock jobs turns log older hastens.1)
+
+pub all_hasten : (clock : Clock) (jobs : List Job) (turns : List GroupTurn) (log : List LogEntry) (places : List Placed) → EachSo (Hastens clock jobs turns) log places → HastenBy clock jobs turns log places
+all_hasten Exact jobs turns log places hastens = (loses_no_time jobs turns log places hastens, goes_on_rightly Exact jobs turns log places hastens)
+all_hasten Running jobs turns log places hastens = (acts_in_order jobs turns log places hastens, goes_on_rightly Running jobs turns log places hastens)
 
 -- ---- all of it
 

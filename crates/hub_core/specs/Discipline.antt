@@ -1,5 +1,6 @@
 -- What a hub keeps of what its link tells: the log is one of its jobs and telegrams, what it tells is true, an end is told only where no attempt runs,
--- each request was asked rightly, and each entry came promptly and without a loss of time. An entry of the record is judged by those before it and by the entries of the log that were made before it.
+-- each request was asked rightly, and each entry came promptly, without a loss of time and, where it is a poll, while there was no cause to end. An entry of
+-- the record is judged by those before it and by the entries of the log that were made before it.
 use Rattle.std.specs.Prelude.{ℕ, ◌⊎◌, List, [], ◌∷◌}
 use Rattle.line_model.specs.declared.group.GroupTurn.{GroupTurn}
 use Rattle.line_model.specs.declared.log.LogEntry.{LogEntry}
@@ -7,7 +8,7 @@ use Rattle.line_model.specs.Record.{Placed, entries}
 use Rattle.line_model.specs.Log.{Job, IsLog, log_before, JobUnfinished, TurnUnfinished}
 use Rattle.line_model.specs.Told.{ToldTruly}
 use Rattle.line_model.specs.Renews.{PollsPromptly}
-use Rattle.line_model.specs.Haste.{LosesNoTime, ActsInOrder}
+use Rattle.line_model.specs.Haste.{LosesNoTime, ActsInOrder, GoesOnRightly}
 use Rattle.line_model.specs.LinkStory.{Clock, Exact, Running}
 use Rattle.line_model.specs.Asks.{IsRightDeed, moment_of}
 use Rattle.line_model.specs.Ends.{EndsAtRest, BeginsSo}
@@ -34,6 +35,7 @@ LosesNone Running jobs turns log older p = ActsInOrder jobs turns log older p
 pub record Hastens (clock : Clock) (jobs : List Job) (turns : List GroupTurn) (log : List LogEntry) (older : List Placed) (p : Placed) : Type 0 where
   pub prompt : IsPrompt jobs turns log older p
   pub loses_none : LosesNone clock jobs turns log older p
+  pub goes_on : GoesOnRightly clock jobs log (entries older) p.what
 
 pub record TellsAndAsks (jobs : List Job) (turns : List GroupTurn) (log : List LogEntry) (count : ℕ) (places : List Placed) : Type 0 where
   pub form : IsLog jobs turns count log

@@ -1,6 +1,6 @@
 -- What the type of a hub keeps. Its books are right when its link tells of so many events. Where its link tells something, what the log tells is true,
--- each request was asked rightly, and each entry came promptly and without a loss of time, always; and until it has ended its work fits the record, and there
--- is no cause to end. Until it asks to end the channel the open one wasn't asked to.
+-- each request was asked rightly, and each entry came promptly and without a loss of time, and each poll while there was no cause to end, always; and until it
+-- has ended its work fits the record, and there is no cause to end. Until it asks to end the channel the open one wasn't asked to.
 use Rattle.std.specs.Prelude.{◌≡◌, ◌≢◌, ℕ, ◌<◌, Bool, false, is_some, List, Option, Some, None}
 use Rattle.knx_model.specs.declared.address.IndAddr.{IndAddr}
 use Rattle.line_model.specs.declared.fault.HubFault.{HubFault}

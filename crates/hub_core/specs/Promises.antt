@@ -38,7 +38,7 @@ LeavesOver jobs turns (Full start events) log = LeavesRightly jobs turns log (pl
 abbrev pub TellsIn : List Job → List GroupTurn → List LogEntry → Story → Type 0
 TellsIn jobs turns log story = WhereTold (TellsAndAsks jobs turns log (place_of story)) story
 
--- it lost no time: of what is said of it, what its link's clock allows
+-- it lost no time, of which is said what its link's clock allows; and it went on only where there was no cause to end
 abbrev pub HastensIn : List Job → List GroupTurn → List LogEntry → Story → Type 0
 HastensIn jobs turns log story = WhereTold (HastenBy (clock_of story) jobs turns log) story
 

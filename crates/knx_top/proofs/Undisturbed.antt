@@ -225,7 +225,7 @@ client c jobs r report run told = record {
   ends = told.thorough.ends;
   begins = told.thorough.begins;
   acknowledges = told.keeps.disciplined.asks.acknowledges;
-  hastens = told.hastens (placed (start r) r.events) refl;
+  hastens = (told.hastens (placed (start r) r.events) refl).0;
 }
 
 -- ---- the group telegrams: each that is told was sent, where none was lost

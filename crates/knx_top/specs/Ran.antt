@@ -91,7 +91,7 @@ pub record IsToldOver (workers : ℕ) (turns : List GroupTurn) (jobs : List Job)
   pub keeps : Keeps jobs turns story (log_of report)
   pub right : IsRightOver jobs story (log_of report)
   -- it loses no time, so far as its link's clock allows to say: a poll lasts at most 100 ms, a heartbeat is in time, and no time passes while a job that has
-  -- begun has something to send that can be sent
+  -- begun has something to send that can be sent; and it goes on only where there is no cause to end
   pub hastens : HastensIn jobs turns (log_of report) story
   -- an end is told only where no attempt of its job runs, no attempt begins once the last one has decided the job, and each loss of the channel is
   -- followed by what is due to the gateway then, and by nothing more

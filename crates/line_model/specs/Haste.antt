@@ -1,7 +1,8 @@
 -- That a client loses no time (this project's own), by record and log alone. A poll lasts at most 100 ms; a heartbeat that is due is sent before the
 -- second poll after; no time passes while a job that has begun has something to send that can be sent; and the end of the open channel is asked
--- for once, where all is over, after which no new endpoint is taken. What of this is said of time needs an exact clock.
-use Rattle.std.specs.Prelude.{◌≡◌, ℕ, ◌+◌, ◌≤◌, Bool, true, false, ◌&&◌, nat_lt, List, [], ◌∷◌}
+-- for once, where all is over, after which no new endpoint is taken. What of this is said of time needs an exact clock. And that it goes on only where
+-- there is no cause to end.
+use Rattle.std.specs.Prelude.{◌≡◌, ℕ, ◌+◌, ◌≤◌, Bool, true, false, ◌&&◌, ◌==◌, nat_lt, List, [], ◌∷◌}
 use Rattle.line_model.specs.declared.group.GroupTurn.{GroupTurn}
 use Rattle.line_model.specs.declared.log.LogEntry.{LogEntry}
 use Rattle.line_model.specs.Record.{Item, Quiet, Entry, Placed, entries, is_renewal, is_poll}
@@ -9,6 +10,7 @@ use Rattle.line_model.specs.ClientView.{ClientChannel, Open, channel}
 use Rattle.line_model.specs.Renews.{is_beat_due, to_poll_before}
 use Rattle.line_model.specs.LinkStory.{Clock, Exact, Running, newest_time}
 use Rattle.line_model.specs.Closing.{asks_to_end, is_open}
+use Rattle.line_model.specs.Faults.{HasNoCause}
 use Rattle.line_model.specs.Leaves.{StaysOpen, IsFinished}
 use Rattle.line_model.specs.Log.{Job, log_before}
 use Rattle.line_model.specs.Attempts.{begun}
@@ -74,6 +76,23 @@ abbrev pub ActInOrder : List Job → List GroupTurn → List LogEntry → List P
 ActInOrder jobs turns log [] = Unit {0}
 ActInOrder jobs turns log (p ∷ older) = ActsInOrder jobs turns (log_before p.at log) older p × ActInOrder jobs turns log older
 
+-- ---- it goes on: a poll is made only where there is no cause to end, by the record before it and the log then
+
+-- With an exact clock a poll is several entries where something fell into its wait. What comes just when the wait before it ends may belong to the same
+-- poll, which began before that end brought a cause.
+abbrev pub is_at_end_of_wait : Clock → List Entry → Entry → Bool
+is_at_end_of_wait Exact r x = has_just_waited r && (x.now == newest_time r)
+is_at_end_of_wait Running r x = false
+
+abbrev pub GoesOnRightly : Clock → List Job → List LogEntry → List Entry → Entry → Type 0
+GoesOnRightly clock jobs log r x = is_poll x.what ≡ true → is_at_end_of_wait clock r x ≡ false → HasNoCause jobs log r
+
+abbrev pub GoOnRightly : Clock → List Job → List LogEntry → List Placed → Type 0
+GoOnRightly clock jobs log [] = Unit {0}
+GoOnRightly clock jobs log (p ∷ older) = GoesOnRightly clock jobs (log_before p.at log) (entries older) p.what × GoOnRightly clock jobs log older
+
+-- ---- all of it
+
 abbrev pub HastenBy : Clock → List Job → List GroupTurn → List LogEntry → List Placed → Type 0
-HastenBy Exact jobs turns log places = LosesNoTimes jobs turns log places
-HastenBy Running jobs turns log places = ActInOrder jobs turns log places
+HastenBy Exact jobs turns log places = LosesNoTimes jobs turns log places × GoOnRightly Exact jobs log places
+HastenBy Running jobs turns log places = ActInOrder jobs turns log places × GoOnRightly Running jobs log places

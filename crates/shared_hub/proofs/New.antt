@@ -56,8 +56,8 @@ no_places (Recorded clock r) places new e = sym (some_is (counted r) places e) �
 no_places (Full start events) places new e = sym (some_is (placed start events) places e) ∙ ap (placed start) new.0
 
 loses_none : (clock : Clock) (jobs : List Job) (turns : List GroupTurn) → HastenBy clock jobs turns [] []
-loses_none Exact jobs turns = tt
-loses_none Running jobs turns = tt
+loses_none Exact jobs turns = (tt, tt)
+loses_none Running jobs turns = (tt, tt)
 
 new_hastens : (jobs : List Job) (turns : List GroupTurn) (s : Story) → IsNewLink s → HastensIn jobs turns [] s
 new_hastens jobs turns s new places e = subst (HastenBy (clock_of s) jobs turns []) (sym (no_places s places new e)) (loses_none (clock_of s) jobs turns)

@@ -165,6 +165,12 @@ pub waits_in_time : (clock : Clock) (what : Item) (wait since until : ℕ) (ws :
 waits_in_time Exact what wait since until ws ends later = let e = ends_in_time what wait since until ends in omega (arith, e, later)
 waits_in_time Running what wait since until ws ends later = rw ends (omega arith)
 
+-- with a clock that runs nothing is an entry of its own
+pub running_at_once : (clock : Clock) (what : Item) (wait since until : ℕ) (ws : List Placed) → EndsBy clock what wait since until (entries ws) → clock ≡ Running → ws ≡ []
+running_at_once Exact what wait since until ws ends e = absurd (cc)
+running_at_once Running what wait since until [] ends e = refl
+running_at_once Running what wait since until (p ∷ ws) ends e = absurd (let z : p.what ∷ entries ws ≡ [] = ends in cc)
+
 record_polls : (clock : Clock) (what : Item) (wait until : ℕ) (older r : List Entry) → PollsRecord clock what wait until older r → Polling what wait until (Recorded clock older) (Recorded clock r) (counted older)
 record_polls clock what wait until older r p = record {
   waited = counted (p.waits ++ older);
@@ -228,6 +234,7 @@ pub record Failing (wait : ℕ) (before after : Story) (old : List Placed) : Typ
   pub waits : Waits (newest_time (entries old)) until (place_of before) (place_of after) old waited
   pub told : places_in after ≡ Some waited
   pub in_time : until ≤ newest_time (entries old) + wait
+  pub at_once : clock_of before ≡ Running → waits.waits ≡ []
 
 pub fails_more : (wait : ℕ) (before after : Story) (old : List Placed) → Keeps before → PollsNothing wait before after → places_in before ≡ Some old → Failing wait before after old
 fails_more wait before Untold old k h p = absurd (let g : (places_in before ≡ None) = rw h refl in cc)
@@ -237,6 +244,7 @@ fails_more wait before (Recorded clock r) old k h p = record {
   waits = record { waits = []; all = refl; times = tt; later = omega arith; above = tt; upto = tt; up = rw h (omega arith) };
   told = sym (ap places_in h) ∙ p;
   in_time = omega arith;
+  at_once = λ running. refl;
 }
 fails_more wait before (Full start events) old k h p =
     let same : (placed start h.0 ≡ old) = same_places before (placed start h.0) old (rw h.1 refl) p in
@@ -249,4 +257,5 @@ fails_more wait before (Full start events) old k h p =
       waits = rw (newest_is_now start h.0 kept.fresh) f;
       told = refl;
       in_time = rw (newest_is_now start h.0 kept.fresh) h.2.in_time;
+      at_once = λ running. absurd (let z : Exact ≡ Running = running in cc);
     }))

@@ -3,7 +3,7 @@ use Rattle.std.proofs.Common.{◌≡◌, inl, inr, ℕ, ◌+◌, ◌≤◌, List
 use Rattle.std.specs.Prelude.{◌||◌}
 use Rattle.line_model.specs.declared.fault.HubFault.{HubFault}
 use Rattle.line_model.specs.Record.{Put, entry, is_poll, Placed, entries}
-use Rattle.line_model.specs.LinkStory.{Story, Exact, clock_of, places_in, newest_time, AreWaits, SendsOrNot}
+use Rattle.line_model.specs.LinkStory.{Story, Exact, Running, clock_of, places_in, newest_time, AreWaits, SendsOrNot}
 use Rattle.line_model.specs.ClientView.{channel, Puts, Takes, Loses, Nothing, deed}
 use Rattle.line_model.specs.Moments.{Moment}
 use Rattle.line_model.specs.Signs.{Every}
@@ -165,14 +165,14 @@ pub record PollOf (result : Result Came HubFault) (wait : ℕ) (new : Known) (be
   pub alone : Each LeavesAlone old grows.added
 
 module _ (result : Result Came HubFault) (wait : ℕ) (new : Known) (before between after : Story) (old ws : List Placed) (legal : Keeps between) (next : Known) (a : Answer) (p : Placed) (poll : is_poll p.what.what ≡ true)
-    (times : AreWaits (newest_time (entries old)) (entries ws)) (in_time : newest_time (entries (ws ++ old)) ≤ newest_time (entries old) + wait) (ends : clock_of before ≡ Exact → p.what.now ≤ newest_time (entries old) + wait) (c : Comes next a old ws p) (told : places_in between ≡ Some (p ∷ (ws ++ old))) (above : IsAbove (place_of before) (p ∷ ws)) (upto : IsUpto (place_of between) (p ∷ ws)) (up : place_of before ≤ place_of between) where
+    (times : AreWaits (newest_time (entries old)) (entries ws)) (in_time : newest_time (entries (ws ++ old)) ≤ newest_time (entries old) + wait) (ends : clock_of before ≡ Exact → p.what.now ≤ newest_time (entries old) + wait) (at_once : clock_of before ≡ Running → ws ≡ []) (c : Comes next a old ws p) (told : places_in between ≡ Some (p ∷ (ws ++ old))) (above : IsAbove (place_of before) (p ∷ ws)) (upto : IsUpto (place_of between) (p ∷ ws)) (up : place_of before ≤ place_of between) where
   polls_alone : Each LeavesAlone old (p ∷ ws)
   polls_alone = (is_alone (entries (ws ++ old)) p.what poll, waits_alone (newest_time (entries old)) old ws times)
 
   pub by_answer : (sends : Option (List ℕ)) → Outcome next sends (entries ((p ∷ ws) ++ old)) → asks_to_leave sends ≡ is_told a.loss → IfOk result (λ (x : Came). x ≡ record { what = a.what; loss = a.loss; sent = is_there sends }) → AnswersSo result sends next new between after
       → PollOf result wait new before after old
   by_answer None kept tells gives u = record {
-    polling = record { rest = p ∷ []; waits = ws; parts = refl; once = Polls p; times = times; in_time = in_time; ends = ends };
+    polling = record { rest = p ∷ []; waits = ws; parts = refl; once = Polls p; times = times; in_time = in_time; ends = ends; at_once = at_once };
     alone = polls_alone;
     is = record { new = p ∷ (ws ++ old); told = ap places_in u.story ∙ told; is = rw u.known kept };
     grows = record {
@@ -185,7 +185,7 @@ module _ (result : Result Came HubFault) (wait : ℕ) (new : Known) (before betw
   }
   by_answer (Some octets) may tells gives (inl s) =
       let m = adds_more (Put octets) _ (sends_it octets) between after (p ∷ (ws ++ old)) legal s.story told in record {
-        polling = record { rest = one_sent octets (place_of after) (p ∷ (ws ++ old)) ∷ p ∷ []; waits = ws; parts = refl; once = PollsAndSends (one_sent octets (place_of after) (p ∷ (ws ++ old))) p refl; times = times; in_time = in_time; ends = ends };
+        polling = record { rest = one_sent octets (place_of after) (p ∷ (ws ++ old)) ∷ p ∷ []; waits = ws; parts = refl; once = PollsAndSends (one_sent octets (place_of after) (p ∷ (ws ++ old))) p refl; times = times; in_time = in_time; ends = ends; at_once = at_once };
         alone = (answer_alone a.what a.loss (newest_time (entries old)) (newest_time (entries ((p ∷ ws) ++ old))) old ws p octets poll times tells c.answers.does may.renews, polls_alone);
         is = record { new = one_sent octets (place_of after) (p ∷ (ws ++ old)) ∷ p ∷ (ws ++ old); told = m.told; is = rw s.known (sent_kept next octets Nothing (entries ((p ∷ ws) ++ old)) may) };
         grows = record {
@@ -208,7 +208,7 @@ module _ (result : Result Came HubFault) (wait : ℕ) (new : Known) (before betw
       failed : SendsOrNot octets between after → PollOf result wait new before after old
       failed (inl s) =
           let m = adds_more (Put octets) _ (sends_it octets) between after (p ∷ (ws ++ old)) legal s told in record {
-            polling = record { rest = one_sent octets (place_of after) (p ∷ (ws ++ old)) ∷ p ∷ []; waits = ws; parts = refl; once = PollsAndSends (one_sent octets (place_of after) (p ∷ (ws ++ old))) p refl; times = times; in_time = in_time; ends = ends };
+            polling = record { rest = one_sent octets (place_of after) (p ∷ (ws ++ old)) ∷ p ∷ []; waits = ws; parts = refl; once = PollsAndSends (one_sent octets (place_of after) (p ∷ (ws ++ old))) p refl; times = times; in_time = in_time; ends = ends; at_once = at_once };
             alone = (answer_alone a.what a.loss (newest_time (entries old)) (newest_time (entries ((p ∷ ws) ++ old))) old ws p octets poll times tells c.answers.does may.renews, polls_alone);
             is = record { new = one_sent octets (place_of after) (p ∷ (ws ++ old)) ∷ p ∷ (ws ++ old); told = m.told; is = rw f.fails.known (failed_kept next _ f.fault f.fails.by_link (sent_right next octets Nothing (entries ((p ∷ ws) ++ old)) may)) };
             grows = record {
@@ -220,7 +220,7 @@ module _ (result : Result Came HubFault) (wait : ℕ) (new : Known) (before betw
             };
           }
       failed (inr e) = record {
-        polling = record { rest = p ∷ []; waits = ws; parts = refl; once = Polls p; times = times; in_time = in_time; ends = ends };
+        polling = record { rest = p ∷ []; waits = ws; parts = refl; once = Polls p; times = times; in_time = in_time; ends = ends; at_once = at_once };
         alone = polls_alone;
         is = record { new = p ∷ (ws ++ old); told = ap places_in e ∙ told; is = bad may.right };
         grows = record {

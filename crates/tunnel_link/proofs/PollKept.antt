@@ -15,7 +15,7 @@ use Rattle.tunnel_link.specs.Adds.{place_of, Growing, PollAdds}
 use Rattle.tunnel_link.specs.Paces.{NoPoll}
 use Rattle.tunnel_link.specs.Calls.{Polled, AnswersSo, Listening, Unpolled, ListensSo, after_item, item_answer}
 use Rattle.tunnel_link.proofs.Alone.{waits_alone}
-use Rattle.tunnel_link.proofs.Growth.{Polling, exact_in_time, waits_in_time, polls_more, Failing, fails_more}
+use Rattle.tunnel_link.proofs.Growth.{Polling, exact_in_time, waits_in_time, running_at_once, polls_more, Failing, fails_more}
 use Rattle.tunnel_link.proofs.MaySend.{failed_kept}
 use Rattle.tunnel_link.proofs.Places.{added_of, where_after}
 use Rattle.tunnel_link.proofs.Stories.{goes_then, stays, sends_goes, sends_or_goes, polls_goes, nothing_goes}
@@ -52,7 +52,7 @@ module _ (result : Result Came HubFault) (wait : ℕ) (k new : Known) (before af
       = subst (λ (n : Known). Comes n l.answer old g.waits.waits (record { at = place_of l.between; what = entry q.what q.now })) (sym q.known)
       (subst (λ (a : Answer). Comes (after_item k q.what q.now) a old g.waits.waits (record { at = place_of l.between; what = entry q.what q.now })) (sym q.is) c) in
       let told : (places_in l.between ≡ Some (record { at = place_of l.between; what = entry q.what q.now } ∷ (g.waits.waits ++ old))) = subst (λ (m : List Placed). places_in l.between ≡ Some (record { at = place_of l.between; what = entry q.what q.now } ∷ m)) g.waits.all g.told in
-      by_answer result wait new before l.between after old g.waits.waits legal l.known l.answer (record { at = place_of l.between; what = entry q.what q.now }) q.poll g.waits.times (let h = newest_last old g.waits.waits in let e = waits_in_time (clock_of before) q.what wait (newest_time (entries old)) q.now (entries g.waits.waits) g.ends g.waits.later in omega (arith, h, e)) (exact_in_time (clock_of before) q.what wait (newest_time (entries old)) q.now (entries g.waits.waits) g.ends) d told (g.up, g.waits.above) (omega arith, g.waits.upto) (let h = g.up in omega arith)
+      by_answer result wait new before l.between after old g.waits.waits legal l.known l.answer (record { at = place_of l.between; what = entry q.what q.now }) q.poll g.waits.times (let h = newest_last old g.waits.waits in let e = waits_in_time (clock_of before) q.what wait (newest_time (entries old)) q.now (entries g.waits.waits) g.ends g.waits.later in omega (arith, h, e)) (exact_in_time (clock_of before) q.what wait (newest_time (entries old)) q.now (entries g.waits.waits) g.ends) (running_at_once (clock_of before) q.what wait (newest_time (entries old)) q.now g.waits.waits g.ends) d told (g.up, g.waits.above) (omega arith, g.waits.upto) (let h = g.up in omega arith)
       l.answer.sends d.answers.so d.answers.tells l.gives l.answers
 
   unpolled : (u : Unpolled result wait k new before after) (old : List Placed) → places_in before ≡ Some old → PollOf result wait new before after old
@@ -62,7 +62,7 @@ module _ (result : Result Came HubFault) (wait : ℕ) (k new : Known) (before af
       let right : IsRight k (entries (g.waits.waits ++ old)) = waits_right k old g.waits.waits calm (kept.fits calm) g.waits.times kept.right in
       let told : (places_in after ≡ Some (g.waits.waits ++ old)) = g.told ∙ ap (λ (l : List Placed). Some l) g.waits.all in
       record {
-        polling = record { rest = []; waits = g.waits.waits; parts = refl; once = NoPoll; times = g.waits.times; in_time = let h = newest_last old g.waits.waits in let e = g.waits.later in let i = g.in_time in omega arith; ends = λ exact. let h = newest_last old g.waits.waits in let e = g.waits.later in let i = g.in_time in omega arith };
+        polling = record { rest = []; waits = g.waits.waits; parts = refl; once = NoPoll; times = g.waits.times; in_time = let h = newest_last old g.waits.waits in let e = g.waits.later in let i = g.in_time in omega arith; ends = λ exact. let h = newest_last old g.waits.waits in let e = g.waits.later in let i = g.in_time in omega arith; at_once = g.at_once };
         alone = waits_alone (newest_time (entries old)) old g.waits.waits g.waits.times;
         is = record { new = g.waits.waits ++ old; told = told; is = rw u.fails.known (failed_kept k (entries (g.waits.waits ++ old)) u.fault u.fails.by_link right) };
         grows = record {

@@ -3,7 +3,7 @@ use Rattle.std.proofs.Common.{◌≡◌, ℕ, ◌+◌, ◌≤◌, List, [], ◌�
 use Rattle.std.specs.Prelude.{min}
 use Rattle.std.specs.List.{AllByRecursion}
 use Rattle.line_model.specs.Record.{Placed, entries}
-use Rattle.line_model.specs.LinkStory.{Clock, Exact, newest_time, AreWaits}
+use Rattle.line_model.specs.LinkStory.{Clock, Exact, Running, newest_time, AreWaits}
 use Rattle.tunnel_link.specs.Alone.{Each}
 use Rattle.tunnel_link.specs.Goes.{TimesMove}
 use Rattle.tunnel_link.specs.Paces.{PollsOnce, PollsWithin}
@@ -17,6 +17,7 @@ pub record IsPolling (clock : Clock) (wait : ℕ) (old added : List Placed) : Ty
   pub times : AreWaits (newest_time (entries old)) (entries waits)
   pub in_time : newest_time (entries (waits ++ old)) ≤ newest_time (entries old) + wait
   pub ends : clock ≡ Exact → newest_time (entries (added ++ old)) ≤ newest_time (entries old) + wait
+  pub at_once : clock ≡ Running → waits ≡ []
 
 -- ---- none of its entries comes later than it ends
 

@@ -1,13 +1,16 @@
--- Within one poll no deadline is passed over: no wait goes on past it. Where a new endpoint is to be taken no heartbeat is, all the same.
+-- Within one poll no deadline is passed over: no wait goes on past it. Where a new endpoint is to be taken no heartbeat is, all the same, and no third
+-- failed try.
 use Rattle.std.proofs.Common.{◌≡◌, ℕ, ◌+◌, ◌<◌, ◌≤◌, List, [], ◌∷◌, ◌++◌, Bool, true, false, refl, sym, subst, ap, ◌∙◌, arith}
-use Rattle.std.specs.Prelude.{◌&&◌}
+use Rattle.std.specs.Prelude.{◌&&◌, ◌==◌, nat_lt, length}
 use Rattle.std.proofs.lemmas.Bool.{or_parts}
+use Rattle.std.proofs.lemmas.Bool.Decides.{nat_tests}
 use Rattle.line_model.specs.Record.{Item, Quiet, Entry, entry, Placed, entries, is_poll}
-use Rattle.line_model.specs.LinkStory.{Clock, newest_time, AreWaits}
+use Rattle.line_model.specs.LinkStory.{Clock, Exact, Running, newest_time, AreWaits}
 use Rattle.line_model.specs.ChannelLost.{own}
 use Rattle.line_model.specs.ClientView as seen
 use Rattle.line_model.specs.ClientView.{ClientChannel, channel, after_entry}
-use Rattle.line_model.specs.Haste.{is_beat_overdue}
+use Rattle.line_model.specs.Faults.{tries}
+use Rattle.line_model.specs.Haste.{is_beat_overdue, is_wait, is_at_end_of_wait}
 use Rattle.line_model.specs.Renews.{is_left, is_late, is_overdue, is_repeat_due, is_beat_due, PollsPromptly, to_last_poll, to_poll_before}
 use Rattle.line_model.specs.ClientEnd.{ClientEnd, Idle, Seeking, Open, Leaving, JustLost, is_over}
 use Rattle.tunnel_link.specs.declared.known.Known.{Known}
@@ -17,12 +20,12 @@ use Rattle.tunnel_link.specs.Kept.{next_due, is_over_for}
 use Rattle.tunnel_link.specs.Rights.{FitsNow, FitsRecord}
 use Rattle.tunnel_link.specs.Adds.{AllPrompt}
 use Rattle.tunnel_link.specs.Alone.{Each}
-use Rattle.tunnel_link.specs.Paces.{BeatsInTime, PollsOnce, NoPoll, Polls, PollsAndSends}
+use Rattle.tunnel_link.specs.Paces.{BeatsInTime, HasTriesLeft, PollsOnce, NoPoll, Polls, PollsAndSends}
 use Rattle.tunnel_link.proofs.Deadlines.{WaitsUntil, waits_before, timely}
 use Rattle.tunnel_link.proofs.Late.{late_same, late_before, quiet_late}
 use Rattle.tunnel_link.proofs.PollParts.{IsPolling}
 use Rattle.tunnel_link.proofs.Polls.{newest_last, waits_all}
-use Rattle.tunnel_link.proofs.Times.{last_poll_time, poll_before_time, waits_rise, waits_move, first_wait}
+use Rattle.tunnel_link.proofs.Times.{moves_up, last_poll_time, poll_before_time, waits_rise, waits_move, first_wait}
 use Rattle.tunnel_link.proofs.Waited.{Waited, InTime, Lapsed, Unheard, none_stays}
 
 -- ---- while the wait goes on
@@ -69,6 +72,24 @@ beat_in_time (seen.Open c m) [] late = refl
 beat_in_time (seen.Open c m) (x ∷ l) late = (or_parts (is_repeat_due (own c m).sent x.now) (is_beat_due c m x.now) late).1
 beat_in_time (seen.Lost c) l late = refl
 
+is_before : (a b : ℕ) → nat_lt a b ≡ true → a < b
+is_before a b e = grind (arith, nat_tests)
+
+isnt_before : (a b : ℕ) → nat_lt a b ≡ false → b ≤ a
+isnt_before a b e = grind (arith, nat_tests)
+
+less_is : (a b : ℕ) → a < b → nat_lt a b ≡ true
+less_is a b lt = grind (arith, nat_tests)
+
+same_is : (a b : ℕ) → a ≡ b → (a == b) ≡ true
+same_is a b e = grind (arith, nat_tests)
+
+-- a wait in which time passed, and what comes at its end
+at_end : (r : List Entry) (x y : Entry) → x.what ≡ Quiet → newest_time r < x.now → y.now ≡ x.now → is_at_end_of_wait Exact (x ∷ r) y ≡ true
+at_end r x y quiet later same =
+    let both : ((is_wait x.what && nat_lt (newest_time r) x.now) && (y.now == x.now)) ≡ true = rw (quiet, less_is (newest_time r) x.now later, same_is y.now x.now same) refl in
+    both
+
 module _ (k : Known) (old : List Placed) (f : FitsRecord k (entries old)) (moves : TimesMove (entries old)) (acted : is_late (channel (entries old)) (newest_time (entries old)) ≡ false) (until : ℕ) (w : WaitsUntil (next_due k) (newest_time (entries old)) until) where
   record Still (ws : List Placed) : Type 0 where
     pub fits : FitsRecord k (entries (ws ++ old))
@@ -112,6 +133,52 @@ module _ (k : Known) (old : List Placed) (f : FitsRecord k (entries old)) (moves
 
   pub polling_beats : (clock : Clock) (wait : ℕ) (added : List Placed) → until ≡ newest_time (entries old) + wait → IsPolling clock wait old added → Each BeatsInTime old added
   polling_beats = polling_each BeatsInTime (λ r x none poll. absurd (let z : true ≡ false = sym poll ∙ none in cc)) (λ ws h le x poll. beat_in_time (channel (entries (ws ++ old))) (to_poll_before (entries (ws ++ old))) (next_late ws h le))
+
+  -- ---- the tries: three may have failed only where the last wait ends at a deadline, and nothing comes later than that
+
+  next_tries : (ws : List Placed) → AreWaits (newest_time (entries old)) (entries ws) → newest_time (entries (ws ++ old)) ≤ until → (x : Entry) → newest_time (entries (ws ++ old)) ≤ x.now → x.now ≤ until → HasTriesLeft Exact (entries (ws ++ old)) x
+  next_tries [] h le x later upto = λ poll here. f.few
+  next_tries (p ∷ ws) h le x later upto = λ poll here. by_end (nat_lt p.what.now until) refl here
+    where
+      by_end : (early : Bool) → nat_lt p.what.now until ≡ early → is_at_end_of_wait Exact (p.what ∷ entries (ws ++ old)) x ≡ false → length (tries (p.what ∷ entries (ws ++ old))) < 3
+      by_end true e here = (still (p ∷ ws) h (is_before p.what.now until e)).fits.few
+      by_end false e here =
+          let rises : newest_time (entries (ws ++ old)) < p.what.now = (let last = newest_last old ws in let up = h.1 in omega arith) in
+          let end : until ≤ p.what.now = isnt_before p.what.now until e in
+          let since : p.what.now ≤ x.now = later in
+          absurd (let z : true ≡ false = sym (at_end (entries (ws ++ old)) p.what x h.0 rises (omega (arith, end, since, upto))) ∙ here in cc)
+
+  no_tries : (clock : Clock) (r : List Entry) (x : Entry) → is_poll x.what ≡ false → HasTriesLeft clock r x
+  no_tries clock r x none poll = absurd (let z : true ≡ false = sym poll ∙ none in cc)
+
+  waits_tries : (ws : List Placed) → AreWaits (newest_time (entries old)) (entries ws) → newest_time (entries (ws ++ old)) ≤ until → Each (HasTriesLeft Exact) old ws
+  waits_tries [] h le = tt
+  waits_tries (p ∷ ws) h le =
+      let rises : newest_time (entries (ws ++ old)) ≤ p.what.now = (let last = newest_last old ws in let up = h.1 in omega arith) in
+      (next_tries ws h.2 (omega arith) p.what rises le, waits_tries ws h.2 (omega arith))
+
+  once_tries : (rest ws : List Placed) → PollsOnce rest → AreWaits (newest_time (entries old)) (entries ws) → newest_time (entries (ws ++ old)) ≤ until → TimesMove (entries ((rest ++ ws) ++ old)) → newest_time (entries ((rest ++ ws) ++ old)) ≤ until
+      → Each (HasTriesLeft Exact) old (rest ++ ws)
+  once_tries rest ws NoPoll h le times upto = waits_tries ws h le
+  once_tries rest ws (Polls p) h le times upto = (next_tries ws h le p.what (moves_up _ (newest_time (entries (ws ++ old))) p.what.now times.0) upto, waits_tries ws h le)
+  once_tries rest ws (PollsAndSends s p n) h le times upto =
+      let sent : p.what.now ≤ s.what.now = moves_up _ p.what.now s.what.now times.0 in
+      let most : s.what.now ≤ until = upto in
+      (no_tries Exact (entries (p ∷ (ws ++ old))) s.what n, (next_tries ws h le p.what (moves_up _ (newest_time (entries (ws ++ old))) p.what.now times.1.0) (omega (arith, sent, most)), waits_tries ws h le))
+
+  -- one that is one entry is made where this end knew what the record says
+  whole_tries : (rest : List Placed) → PollsOnce rest → Each (HasTriesLeft Running) old (rest ++ [])
+  whole_tries rest NoPoll = tt
+  whole_tries rest (Polls p) = ((λ poll here. f.few), tt)
+  whole_tries rest (PollsAndSends s p n) = (no_tries Running (p.what ∷ entries old) s.what n, ((λ poll here. f.few), tt))
+
+  pub polling_tries : (clock : Clock) (wait : ℕ) (added : List Placed) → until ≡ newest_time (entries old) + wait → TimesMove (entries (added ++ old)) → IsPolling clock wait old added → Each (HasTriesLeft clock) old added
+  polling_tries Exact wait added same times p =
+      subst (λ (l : List Placed). Each (HasTriesLeft Exact) old l) (sym p.parts)
+      (once_tries p.rest p.waits p.once p.times (let le = p.in_time in omega arith) (subst (λ (l : List Placed). TimesMove (entries (l ++ old))) p.parts times)
+      (subst (λ (l : List Placed). newest_time (entries (l ++ old)) ≤ until) p.parts (let le = p.ends refl in omega (arith, le, same))))
+  polling_tries Running wait added same times p =
+      subst (λ (l : List Placed). Each (HasTriesLeft Running) old l) (sym (p.parts ∙ ap (λ (l : List Placed). p.rest ++ l) (p.at_once refl))) (whole_tries p.rest p.once)
 
   -- ---- and where no new endpoint was to be taken
 

@@ -1,12 +1,14 @@
 -- At which pace a call goes on, by the entries that it adds. But for a poll none of them takes time. A poll is made of waits, whatever comes of it, then
--- at most one more poll, and at most one sending after that; with an exact clock it lasts so long at most, and a heartbeat that is due isn't passed over in it.
-use Rattle.std.specs.Prelude.{◌≡◌, ℕ, ◌+◌, ◌≤◌, min, true, false, List, [], ◌∷◌, ◌++◌}
+-- at most one more poll, and at most one sending after that; with an exact clock it lasts so long at most, and a heartbeat that is due isn't passed over in it,
+-- nor a third failed try.
+use Rattle.std.specs.Prelude.{◌≡◌, ℕ, ◌+◌, ◌<◌, ◌≤◌, min, true, false, List, [], ◌∷◌, ◌++◌, length}
 use Rattle.std.specs.List.{AllByRecursion}
 use Rattle.line_model.specs.Record.{Entry, Placed, entries, is_poll}
 use Rattle.line_model.specs.ClientView.{channel}
 use Rattle.line_model.specs.Renews.{to_poll_before}
 use Rattle.line_model.specs.LinkStory.{Clock, Exact, newest_time, AreWaits}
-use Rattle.line_model.specs.Haste.{is_beat_overdue}
+use Rattle.line_model.specs.Faults.{tries}
+use Rattle.line_model.specs.Haste.{is_beat_overdue, is_at_end_of_wait}
 use Rattle.line_model.specs.Waiting.{longest_poll}
 use Rattle.tunnel_link.specs.Alone.{Each}
 
@@ -36,3 +38,7 @@ pub record PollsWithin (clock : Clock) (longest : ℕ) (old added : List Placed)
 -- where it is a poll, no heartbeat was due already at the end of the poll before the last
 abbrev pub BeatsInTime : List Entry → Entry → Type 0
 BeatsInTime r x = is_poll x.what ≡ true → is_beat_overdue (channel r) (to_poll_before r) ≡ false
+
+-- where it is a poll, fewer than three tries failed before it, unless it comes just when the wait before it ends
+abbrev pub HasTriesLeft : Clock → List Entry → Entry → Type 0
+HasTriesLeft clock r x = is_poll x.what ≡ true → is_at_end_of_wait clock r x ≡ false → length (tries r) < 3

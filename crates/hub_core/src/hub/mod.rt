@@ -158,9 +158,10 @@ impl<L: Link> Hub<L> {
 
     /// What its type keeps, at every moment and after a fault too, for any jobs with its devices and plans. Where its link tells something: the log is
     /// one of its jobs and telegrams, what it tells is true, and each request was right; all is kept that the line's promises need of the client, and it
-    /// polled promptly, so that it kept the client's whole discipline; it is thorough in what it ends; it lost no time; it has ended exactly where there is a cause; and over
-    /// a link that tells its events and with good jobs, what the law of the line says. Until it has ended, the gateway was told of each loss of the channel. Over every link its log is one of its jobs and telegrams, with one downloader for each
-    /// device, and each job that was taken was the first that was free.
+    /// polled promptly, so that it kept the client's whole discipline; it is thorough in what it ends; it lost no time, and polled only while there was
+    /// no cause to end; it has ended exactly where there is a cause; and over a link that tells its events and with good jobs, what the law of the line
+    /// says. Until it has ended, the gateway was told of each loss of the channel. Over every link its log is one of its jobs and telegrams, with one
+    /// downloader for each device, and each job that was taken was the first that was free.
     pub fn keeps(&self)
         ensures tells { (jobs : List Job) → AreJobs self.now.jobs jobs → TellsIn jobs self.now.turns self.now.log (L.story self.now.link) }
         ensures headline { (jobs : List Job) → AreJobs self.now.jobs jobs → Keeps jobs self.now.turns (L.story self.now.link) self.now.log }

@@ -9,7 +9,7 @@ ghost use Rattle.tunnel_link.specs.Rights.{IsOfTunnel, after_result};
 ghost use Rattle.tunnel_link.specs.Adds.{Growing, place_of, Seeks, PutsOne, Leaves, Dues, Acts, PollAdds, AllPrompt, HasActed, Ready};
 ghost use Rattle.tunnel_link.specs.Kept.{with_due};
 ghost use Rattle.tunnel_link.specs.Lasts.{LastsRightly};
-ghost use Rattle.tunnel_link.specs.Paces.{BeatsInTime, PollsWithin, TakesNoTime};
+ghost use Rattle.tunnel_link.specs.Paces.{BeatsInTime, HasTriesLeft, PollsWithin, TakesNoTime};
 
 use super::Tunnel;
 use crate::came::Came;
@@ -144,7 +144,7 @@ impl<L: Link> Tunnel<L> {
 
     /// One poll of at most so many milliseconds, never more than 100, and not past a deadline, also where it fails. A request that was got is acknowledged at
     /// once, and a loss of the channel answered. Where nothing is due when it begins, no deadline is passed over in it; and no heartbeat where none was due,
-    /// though a new endpoint was to be taken.
+    /// though a new endpoint was to be taken, nor a third failed try.
     pub fn poll(&mut self, longest_ms: u32) -> Result<Came, HubFault>
         ensures grows { GoesOn (L.story self.old.link) (L.story self.new.link) }
         ensures adds { Growing (PollAdds result) (L.story self.old.link) (L.story self.new.link) }
@@ -159,6 +159,7 @@ impl<L: Link> Tunnel<L> {
         ensures alone { Growing (Each LeavesAlone) (L.story self.old.link) (L.story self.new.link) }
         ensures prompt { Ready self.old.known (L.story self.old.link) → Growing AllPrompt (L.story self.old.link) (L.story self.new.link) }
         ensures beats { HasActed self.old.known (L.story self.old.link) → Growing (Each BeatsInTime) (L.story self.old.link) (L.story self.new.link) }
+        ensures tries { HasActed self.old.known (L.story self.old.link) → Growing (Each (HasTriesLeft (clock_of (L.story self.old.link)))) (L.story self.old.link) (L.story self.new.link) }
         ensures within { Growing (PollsWithin (clock_of (L.story self.old.link)) longest_ms) (L.story self.old.link) (L.story self.new.link) }
         ensures lasts { HasActed self.old.known (L.story self.old.link) → OnOk result (Growing (LastsRightly (clock_of (L.story self.old.link)) longest_ms) (L.story self.old.link) (L.story self.new.link)) }
     {

@@ -2,7 +2,7 @@ use Rattle.std.proofs.Common.{ℕ, List, subst}
 use Rattle.line_model.specs.LinkStory.{IsPlace}
 use Rattle.hub_work.specs.Downloaders.{Task, AreJobsWith}
 use Rattle.hub_core.proofs.Headlines.{headline, safe_over, right_over, fault_in}
-use Rattle.hub_core.proofs.Telling.{loses_none}
+use Rattle.hub_core.proofs.Telling.{all_hasten}
 use Rattle.hub_core.proofs.Thorough.{thorough_over}
 use Rattle.hub_core.proofs.View.{seen_tasks}
 use Rattle.hub_core.proofs.hub.Hub.keeps.Goals as goal
@@ -35,7 +35,7 @@ returns-clause-thorough g c =
 
 pub returns-clause-hastens : goal.returns-clause-hastens
 returns-clause-hastens g c =
-    rw (← c.self.view_is) (λ jobs of places e. loses_none _ jobs c.self.inside.work.telegrams.turns c.self.inside.work.journal.entries places (c.self.invariant.hastens jobs (subst (λ (ts : List Task). AreJobsWith ts jobs) (seen_tasks c.self.inside.work) of) places e))
+    rw (← c.self.view_is) (λ jobs of places e. all_hasten _ jobs c.self.inside.work.telegrams.turns c.self.inside.work.journal.entries places (c.self.invariant.hastens jobs (subst (λ (ts : List Task). AreJobsWith ts jobs) (seen_tasks c.self.inside.work) of) places e))
 
 pub returns-clause-right : goal.returns-clause-right
 returns-clause-right g c =

@@ -6,7 +6,7 @@ use Rattle.hub_core.specs.Taking.{EndsSo}
 use Rattle.hub_core.proofs.Calls.{polls_failed}
 use Rattle.hub_core.proofs.Keeps.{none_inside}
 use Rattle.hub_core.proofs.Polling.{polls_kept}
-use Rattle.hub_core.proofs.Hastening.{asked_after, hastens_poll, opens_by, sent_before}
+use Rattle.hub_core.proofs.Hastening.{asked_after, hastens_poll, opens_by, runs_before, sent_before}
 use Rattle.hub_core.proofs.Leaving.{ends_none_of}
 use Rattle.hub_core.proofs.View.{same_run}
 use Rattle.hub_core.proofs.Hears.{hears_poll, polls_few, failed_few}
@@ -24,8 +24,9 @@ invariant_of-self g c =
     let none : c.self.inside.tunnel.known.fault ≡ None = none_inside _ _ c.self.view_is c.requires.stands in
     let acted : HasActed c.self.inside.tunnel.known (g.L.Link.story c.self.inside.tunnel.link) = subst (λ v. HasActed v.known (g.L.Link.story v.link)) (sym c.self.view_is) c.requires.acted in
     polls_failed _ _ _ _ _ _ _ none c.poll.ensures.events c.poll.ensures.grows _ _ c.in_err-came.ensures.adds c.in_err-came.ensures.fault (c.in_err-came.ensures.by_tunnel none)
-    (hastens_poll _ _ c.self.inside.work c.wait_ms-longest_ms.result c.poll.ensures.within (c.poll.ensures.beats acted) c.poll.ensures.alone
+    (hastens_poll _ _ c.self.inside.work _ c.wait_ms-longest_ms.result c.poll.ensures.within (c.poll.ensures.beats acted) (c.poll.ensures.tries acted) c.poll.ensures.alone
     (sent_before _ _ c.self.inside.work _ _ none c.self.invariant c.moments_go_on.ensures.later c.now-now.result c.now-now.ensures.newest c.has_place-has_place.result (c.has_place-has_place.ensures.told none) c.wait_ms-longest_ms.result c.wait_ms-longest_ms.ensures.sent)
+    (runs_before _ _ c.self.inside.work _ _ none c.self.invariant)
     (λ e. c.poll.ensures.prompt (subst (λ v. v.closing ≡ None → Ready v.known (g.L.Link.story v.link)) (sym c.self.view_is) c.requires.ready e)) c.self.invariant.closes) c.self.invariant
 
 pub invariant_of-self-in-Some : goal.invariant_of-self-in-Some
@@ -36,8 +37,9 @@ invariant_of-self-in-Some g c =
     (polls_kept _ _ _ _ _ _ _ _ _ _ none c.poll.ensures.events c.poll.ensures.grows c.take_in-polled.ensures.books c.in_ok-came.came c.now-now-2.result c.taken.result c.in_ok-came.ensures.adds c.moments_go_on.ensures.later
     c.take_in-polled.ensures.fits c.now-now-2.ensures.newest (λ places e. c.taken.ensures ∙ (c.keeps.ensures.record places e).right.takes) (Some c.in-Some.fault) c.fail.ensures.fault
     (subst (λ (o : Option HubFault). EndsSo c.take_in-polled.new.work c.self.inside.met c.ending.new.met c.in_ok-came.came.what c.taken.result o) c.in-Some.is c.ending.ensures)
-    (hastens_poll _ _ c.self.inside.work c.wait_ms-longest_ms.result c.poll.ensures.within (c.poll.ensures.beats acted) c.poll.ensures.alone
+    (hastens_poll _ _ c.self.inside.work _ c.wait_ms-longest_ms.result c.poll.ensures.within (c.poll.ensures.beats acted) (c.poll.ensures.tries acted) c.poll.ensures.alone
     (sent_before _ _ c.self.inside.work _ _ none c.self.invariant c.moments_go_on.ensures.later c.now-now.result c.now-now.ensures.newest c.has_place-has_place.result (c.has_place-has_place.ensures.told none) c.wait_ms-longest_ms.result c.wait_ms-longest_ms.ensures.sent)
+    (runs_before _ _ c.self.inside.work _ _ none c.self.invariant)
     (λ e. c.poll.ensures.prompt (subst (λ v. v.closing ≡ None → Ready v.known (g.L.Link.story v.link)) (sym c.self.view_is) c.requires.ready e)) c.self.invariant.closes)
     (opens_by _ _ c.self.inside.work c.take_in-polled.new.work _ c.poll.ensures.grows (ends_none_of _ _ c.poll.ensures.alone) (asked_after _ _ _ _ _ c.take_in-polled.ensures.closes)) c.self.invariant)
 
@@ -48,8 +50,9 @@ invariant_of-self-in-None g c =
     polls_kept _ _ _ _ _ _ _ _ _ _ none c.poll.ensures.events c.poll.ensures.grows c.take_in-polled.ensures.books c.in_ok-came.came c.now-now-2.result c.taken.result c.in_ok-came.ensures.adds c.moments_go_on.ensures.later
     c.take_in-polled.ensures.fits c.now-now-2.ensures.newest (λ places e. c.taken.ensures ∙ (c.keeps.ensures.record places e).right.takes) None c.in_ok-came.ensures.stands
     (subst (λ (o : Option HubFault). EndsSo c.take_in-polled.new.work c.self.inside.met c.ending.new.met c.in_ok-came.came.what c.taken.result o) c.in-None.is c.ending.ensures)
-    (hastens_poll _ _ c.self.inside.work c.wait_ms-longest_ms.result c.poll.ensures.within (c.poll.ensures.beats acted) c.poll.ensures.alone
+    (hastens_poll _ _ c.self.inside.work _ c.wait_ms-longest_ms.result c.poll.ensures.within (c.poll.ensures.beats acted) (c.poll.ensures.tries acted) c.poll.ensures.alone
     (sent_before _ _ c.self.inside.work _ _ none c.self.invariant c.moments_go_on.ensures.later c.now-now.result c.now-now.ensures.newest c.has_place-has_place.result (c.has_place-has_place.ensures.told none) c.wait_ms-longest_ms.result c.wait_ms-longest_ms.ensures.sent)
+    (runs_before _ _ c.self.inside.work _ _ none c.self.invariant)
     (λ e. c.poll.ensures.prompt (subst (λ v. v.closing ≡ None → Ready v.known (g.L.Link.story v.link)) (sym c.self.view_is) c.requires.ready e)) c.self.invariant.closes)
     (opens_by _ _ c.self.inside.work c.take_in-polled.new.work _ c.poll.ensures.grows (ends_none_of _ _ c.poll.ensures.alone) (asked_after _ _ _ _ _ c.take_in-polled.ensures.closes)) c.self.invariant
 

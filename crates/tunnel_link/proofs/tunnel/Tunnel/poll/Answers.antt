@@ -5,7 +5,7 @@ use Rattle.tunnel_link.proofs.Deadlines.{WaitsUntil}
 use Rattle.tunnel_link.proofs.PollKept.{listens_go, poll_keeps, poll_adds}
 use Rattle.line_frames.proofs.Read.{has_tunnels}
 use Rattle.tunnel_link.proofs.Faulted.{listens_of}
-use Rattle.tunnel_link.proofs.Prompts.{none_within, poll_beats, poll_prompt, poll_within}
+use Rattle.tunnel_link.proofs.Prompts.{none_within, poll_beats, poll_prompt, poll_tries, poll_within}
 use Rattle.tunnel_link.proofs.AloneCalls.{poll_alone}
 use Rattle.tunnel_link.proofs.Lasting.{poll_lasts}
 use Rattle.line_model.specs.Waiting.{PollEnds}
@@ -41,6 +41,15 @@ returns-clause-beats g c =
       in_range = c.until-wait_ms.ensures.in_range;
     } in
     rw (← c.self.view_is) (λ acted. (poll_beats _ c.until-wait_ms.result c.now-now.result _ _ _ _ (has_tunnels c.frames_are_read.ensures.datagrams) c.self.invariant c.in_ok-standing.ensures.stands c.listened.ensures.so c.now-now.ensures.told w acted))
+
+pub returns-clause-tries : goal.returns-clause-tries
+returns-clause-tries g c =
+    let same : (c.deadline.result ≡ next_due c.self.inside.known) = c.deadline.ensures.value ∙ ap (λ v. next_due v.known) (sym c.self.view_is) in
+    let w : WaitsUntil (next_due c.self.inside.known) c.now-now.result (c.now-now.result + c.until-wait_ms.result) = record {
+      in_time = subst (λ (d : Option ℕ). IfSome d (λ time. c.now-now.result < time → c.now-now.result + c.until-wait_ms.result ≤ time)) same (upto_deadline _ _ _ _ c.until-wait_ms.ensures);
+      in_range = c.until-wait_ms.ensures.in_range;
+    } in
+    rw (← c.self.view_is) (λ acted. (poll_tries _ c.until-wait_ms.result c.now-now.result _ _ _ _ (has_tunnels c.frames_are_read.ensures.datagrams) c.self.invariant c.in_ok-standing.ensures.stands c.listened.ensures.so c.now-now.ensures.told w acted))
 
 pub returns-clause-within : goal.returns-clause-within
 returns-clause-within g c = rw (← ap (λ v. v.link) c.self.view_is) (poll_within _ c.until-wait_ms.result c.now-now.result _ _ _ _ (has_tunnels c.frames_are_read.ensures.datagrams) c.self.invariant c.in_ok-standing.ensures.stands c.listened.ensures.so c.args.longest_ms (omega arith))
