@@ -1,13 +1,13 @@
 -- One device of a calm line: what the record says of the one attempt of its job, by the phase. The client's number and the one that it expects are those
 -- of the session, as many services were acknowledged and answered as the plan has gone on, and once the T_Disconnect is put the job is decided.
-use Rattle.std.proofs.Common.{◌≡◌, ℕ, suc, ◌+◌, ◌-◌, ◌%◌, ◌≤◌, ◌⊎◌, List, [], ◌∷◌, length, reverse, Bool, true, false, ◌||◌, cond, Option, Some, None, refl, sym, ◌∙◌, ap, subst, inl, inr}
+use Rattle.std.proofs.Common.{◌≡◌, ℕ, suc, ◌+◌, ◌%◌, ◌≤◌, ◌⊎◌, List, [], ◌∷◌, length, reverse, Bool, true, false, ◌||◌, cond, Option, Some, None, refl, sym, ◌∙◌, ap, subst, inl, inr}
 use Rattle.knx_model.specs.declared.address.IndAddr.{IndAddr}
 use Rattle.knx_model.specs.declared.connection.TransportFrame.{TransportFrame}
 use Rattle.knx_model.specs.declared.connection.TransportFrame.TheVariants.{Connect}
 use Rattle.knx_model.specs.Plans.{Plan, Asks}
 use Rattle.line_model.specs.Attempts.{Attempts, Resting, begun, put_so, confirmed_so, heard_so, attempts}
 use Rattle.line_model.specs.Moments.{Moment, confirmation_in, put_to, heard_from, Number, Next, Outstanding, number_put, number_heard, number, is_disconnect, closes_by, is_loss, ends_session, is_connect, grown, stretches, Course, Unconfirmed, WithError, InSession, Left, course_from, course_after, course, is_acknowledged, acknowledged, answer_expected, answers, service_put, services}
-use Rattle.line_model.specs.Progress.{Reaches}
+use Rattle.line_model.specs.Progress.{Reaches, last_of}
 use Rattle.line_model.specs.Told.{WentThrough, AnsweredWrong, Unawaited, IsRefused}
 use Rattle.calm_law.proofs.Phases.{Phase, Rests, Opens, Ready, Sends, Served, Awaits, Owes, Acks, Leaves}
 
@@ -71,9 +71,9 @@ abbrev pub InSo : ℕ → Plan → ℕ → ℕ → Phase → List Moment → Typ
 InSo a plan n e Rests s = ⊥
 InSo a plan n e (Opens fly) s = ⊥
 InSo a plan n e (Ready left closing) s = Stands a (Next n) e s × GoesSo a plan closing left s
-InSo a plan n e (Sends apdu expect next) s = Stands a (Outstanding n) e s × IsAt a plan (Asks apdu expect next) s
-InSo a plan n e (Served told apdu expect next o) s = Stands a (Outstanding n) e s × IsAt a plan (Asks apdu expect next) s
-InSo a plan n e (Awaits apdu expect next v) s = Stands a (Next n) e s × Lacks a plan (Asks apdu expect next) s
+InSo a plan n e (Sends place apdu expect next) s = Stands a (Outstanding n) e s × IsAt a plan (Asks place apdu expect next) s
+InSo a plan n e (Served told place apdu expect next o) s = Stands a (Outstanding n) e s × IsAt a plan (Asks place apdu expect next) s
+InSo a plan n e (Awaits place apdu expect next v) s = Stands a (Next n) e s × Lacks a plan (Asks place apdu expect next) s
 InSo a plan n e (Owes left closing v m) s = Stands a (Next n) e s × GoesSo a plan closing left s
 InSo a plan n e (Acks fly left closing v m) s = Stands a (Next n) e s × GoesSo a plan closing left s
 InSo a plan n e (Leaves fly left) s = ⊥
@@ -107,9 +107,9 @@ abbrev pub CourseIs : Type 0 → ℕ → Plan → ℕ → ℕ → Phase → Cour
 CourseIs W a plan n e Rests c = IsLeft (Decided W a plan) c
 CourseIs W a plan n e (Opens fly) c = IsOpening c
 CourseIs W a plan n e (Ready left closing) c = IsIn (InSo a plan n e (Ready left closing)) c
-CourseIs W a plan n e (Sends apdu expect next) c = IsIn (InSo a plan n e (Sends apdu expect next)) c
-CourseIs W a plan n e (Served told apdu expect next o) c = IsIn (InSo a plan n e (Served told apdu expect next o)) c
-CourseIs W a plan n e (Awaits apdu expect next v) c = IsIn (InSo a plan n e (Awaits apdu expect next v)) c
+CourseIs W a plan n e (Sends place apdu expect next) c = IsIn (InSo a plan n e (Sends place apdu expect next)) c
+CourseIs W a plan n e (Served told place apdu expect next o) c = IsIn (InSo a plan n e (Served told place apdu expect next o)) c
+CourseIs W a plan n e (Awaits place apdu expect next v) c = IsIn (InSo a plan n e (Awaits place apdu expect next v)) c
 CourseIs W a plan n e (Owes left closing v m) c = IsIn (InSo a plan n e (Owes left closing v m)) c
 CourseIs W a plan n e (Acks fly left closing v m) c = IsIn (InSo a plan n e (Acks fly left closing v m)) c
 CourseIs W a plan n e (Leaves fly left) c = IsLeft (Decided W a plan) c
@@ -165,13 +165,13 @@ module _ (a : ℕ) (plan : Plan) (s t : List Moment) (same : Same a s t) where
   same_lacks left (k, last, r) = (k, last ∙ sym same.ackeds_are, subst (λ z. Reaches plan k (reverse z) left) (sym same.answers_are) r)
 
   same_why : (op : ℕ) (got expected : List ℕ) (before : List (List ℕ)) → AnsweredWrong a plan op got expected before s ⊎ Unawaited a plan op expected before s → AnsweredWrong a plan op got expected before t ⊎ Unawaited a plan op expected before t
-  same_why op got expected before (inl w) = inl (record { last = ap (λ (z : List (List ℕ)). length z) same.services_are ∙ w.last; left = w.left; so_far = w.so_far; differs = w.differs })
+  same_why op got expected before (inl w) = inl (record { earlier = w.earlier; last = ap (λ (z : List (List ℕ)). length z) same.services_are ∙ w.last; left = w.left; so_far = w.so_far; differs = w.differs })
   same_why op got expected before (inr w) =
       inr (record {
         empty = w.empty;
         left = w.left;
         so_far = subst (λ (z : List (List ℕ)). Reaches plan (length z) (reverse before) w.left) (sym same.services_are) w.so_far;
-        last = w.last ∙ ap (λ (z : List (List ℕ)). length z - 1) (sym same.services_are);
+        last = w.last ∙ ap (λ (z : List (List ℕ)). last_of 0 plan (length z) (reverse before)) (sym same.services_are);
       })
 
   pub same_refusal : Refusal a plan s → Refusal a plan t
@@ -186,9 +186,9 @@ module _ (a : ℕ) (plan : Plan) (s t : List Moment) (same : Same a s t) where
   same_in n e Rests h = h
   same_in n e (Opens fly) h = h
   same_in n e (Ready left closing) h = (same_stands (Next n) e h.0, same_goes closing left h.1)
-  same_in n e (Sends apdu expect next) h = (same_stands (Outstanding n) e h.0, same_at (Asks apdu expect next) h.1)
-  same_in n e (Served told apdu expect next o) h = (same_stands (Outstanding n) e h.0, same_at (Asks apdu expect next) h.1)
-  same_in n e (Awaits apdu expect next v) h = (same_stands (Next n) e h.0, same_lacks (Asks apdu expect next) h.1)
+  same_in n e (Sends place apdu expect next) h = (same_stands (Outstanding n) e h.0, same_at (Asks place apdu expect next) h.1)
+  same_in n e (Served told place apdu expect next o) h = (same_stands (Outstanding n) e h.0, same_at (Asks place apdu expect next) h.1)
+  same_in n e (Awaits place apdu expect next v) h = (same_stands (Next n) e h.0, same_lacks (Asks place apdu expect next) h.1)
   same_in n e (Owes left closing v m) h = (same_stands (Next n) e h.0, same_goes closing left h.1)
   same_in n e (Acks fly left closing v m) h = (same_stands (Next n) e h.0, same_goes closing left h.1)
   same_in n e (Leaves fly left) h = h
@@ -264,9 +264,9 @@ module _ (W : Type 0) (a : ℕ) (plan : Plan) (m : Moment) (c : Option Bool) (sa
   course_more (Opens fly) (inl none) = opening_on a m None c None says none
   course_more (Opens fly) (inr isnt) = absurd isnt
   course_more (Ready left closing) why = in_on a m None c None says _ _ (stays (Ready left closing))
-  course_more (Sends apdu expect next) why = in_on a m None c None says _ _ (stays (Sends apdu expect next))
-  course_more (Served told apdu expect next o) why = in_on a m None c None says _ _ (stays (Served told apdu expect next o))
-  course_more (Awaits apdu expect next v) why = in_on a m None c None says _ _ (stays (Awaits apdu expect next v))
+  course_more (Sends place apdu expect next) why = in_on a m None c None says _ _ (stays (Sends place apdu expect next))
+  course_more (Served told place apdu expect next o) why = in_on a m None c None says _ _ (stays (Served told place apdu expect next o))
+  course_more (Awaits place apdu expect next v) why = in_on a m None c None says _ _ (stays (Awaits place apdu expect next v))
   course_more (Owes left closing v k) why = in_on a m None c None says _ _ (stays (Owes left closing v k))
   course_more (Acks fly left closing v k) why = in_on a m None c None says _ _ (stays (Acks fly left closing v k))
   course_more (Leaves fly left) why = left_on a m None c None says (Decided W a plan)
@@ -278,9 +278,9 @@ module _ (W : Type 0) (a : ℕ) (plan : Plan) (m : Moment) (c : Option Bool) (sa
   not_begun_more k Rests l h = (h.0, none_more a m l nothing_put h.1)
   not_begun_more k (Opens fly) l h = h
   not_begun_more k (Ready left closing) l h = h
-  not_begun_more k (Sends apdu expect next) l h = h
-  not_begun_more k (Served told apdu expect next o) l h = h
-  not_begun_more k (Awaits apdu expect next v) l h = h
+  not_begun_more k (Sends place apdu expect next) l h = h
+  not_begun_more k (Served told place apdu expect next o) l h = h
+  not_begun_more k (Awaits place apdu expect next v) l h = h
   not_begun_more k (Owes left closing v j) l h = h
   not_begun_more k (Acks fly left closing v j) l h = h
   not_begun_more k (Leaves fly left) l h = h

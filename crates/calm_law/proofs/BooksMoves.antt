@@ -19,46 +19,46 @@ Texts = List (List ℕ)
 
 -- ---- a plan goes on by one operation
 
-one_acknowledged : (x : Plan) (apdu : List ℕ) (next : Option (List ℕ) → Plan) → x ≡ Asks apdu AckOnly next → Reaches x 1 [] (next None)
-one_acknowledged x apdu next e = subst (λ z. Reaches z 1 [] (next None)) (sym e) refl
+one_acknowledged : (x : Plan) (place : ℕ) (apdu : List ℕ) (next : Option (List ℕ) → Plan) → x ≡ Asks place apdu AckOnly next → Reaches x 1 [] (next None)
+one_acknowledged x place apdu next e = subst (λ z. Reaches z 1 [] (next None)) (sym e) refl
 
-acknowledged_one : (plan : Plan) (n : ℕ) (got : Texts) (apdu : List ℕ) (next : Option (List ℕ) → Plan) → Reaches plan n got (Asks apdu AckOnly next) → Reaches plan (suc n) got (next None)
-acknowledged_one plan zero [] apdu next h = one_acknowledged plan apdu next h
-acknowledged_one plan zero (one ∷ got) apdu next h = absurd h
-acknowledged_one Over (suc n) got apdu next h = absurd h
-acknowledged_one (Asks op AckOnly more) (suc n) [] apdu next h = acknowledged_one (more None) n [] apdu next h
-acknowledged_one (Asks op AckOnly more) (suc n) (one ∷ got) apdu next h = acknowledged_one (more None) n (one ∷ got) apdu next h
-acknowledged_one (Asks op (Is wanted) more) (suc n) [] apdu next h = absurd h
-acknowledged_one (Asks op (Is wanted) more) (suc n) (one ∷ got) apdu next h = (h.0, acknowledged_one (more (Some one)) n got apdu next h.1)
-acknowledged_one (Asks op Note more) (suc n) [] apdu next h = absurd h
-acknowledged_one (Asks op Note more) (suc n) (one ∷ got) apdu next h = (h.0, acknowledged_one (more (Some one)) n got apdu next h.1)
+acknowledged_one : (plan : Plan) (n : ℕ) (got : Texts) (place : ℕ) (apdu : List ℕ) (next : Option (List ℕ) → Plan) → Reaches plan n got (Asks place apdu AckOnly next) → Reaches plan (suc n) got (next None)
+acknowledged_one plan zero [] place apdu next h = one_acknowledged plan place apdu next h
+acknowledged_one plan zero (one ∷ got) place apdu next h = absurd h
+acknowledged_one Over (suc n) got place apdu next h = absurd h
+acknowledged_one (Asks j op AckOnly more) (suc n) [] place apdu next h = acknowledged_one (more None) n [] place apdu next h
+acknowledged_one (Asks j op AckOnly more) (suc n) (one ∷ got) place apdu next h = acknowledged_one (more None) n (one ∷ got) place apdu next h
+acknowledged_one (Asks j op (Is wanted) more) (suc n) [] place apdu next h = absurd h
+acknowledged_one (Asks j op (Is wanted) more) (suc n) (one ∷ got) place apdu next h = (h.0, acknowledged_one (more (Some one)) n got place apdu next h.1)
+acknowledged_one (Asks j op Note more) (suc n) [] place apdu next h = absurd h
+acknowledged_one (Asks j op Note more) (suc n) (one ∷ got) place apdu next h = (h.0, acknowledged_one (more (Some one)) n got place apdu next h.1)
 
-answered_first : (x : Plan) (apdu got : List ℕ) (expect : Expect) (next : Option (List ℕ) → Plan) → x ≡ Asks apdu expect next → Suits apdu expect (Some got) → Reaches x 1 (got ∷ []) (next (Some got))
-answered_first x apdu got AckOnly next e s = absurd s
-answered_first x apdu got (Is wanted) next e s = subst (λ z. Reaches z 1 (got ∷ []) (next (Some got))) (sym e) (s, refl)
-answered_first x apdu got Note next e s = subst (λ z. Reaches z 1 (got ∷ []) (next (Some got))) (sym e) (s, refl)
+answered_first : (x : Plan) (place : ℕ) (apdu got : List ℕ) (expect : Expect) (next : Option (List ℕ) → Plan) → x ≡ Asks place apdu expect next → Suits apdu expect (Some got) → Reaches x 1 (got ∷ []) (next (Some got))
+answered_first x place apdu got AckOnly next e s = absurd s
+answered_first x place apdu got (Is wanted) next e s = subst (λ z. Reaches z 1 (got ∷ []) (next (Some got))) (sym e) (s, refl)
+answered_first x place apdu got Note next e s = subst (λ z. Reaches z 1 (got ∷ []) (next (Some got))) (sym e) (s, refl)
 
-answered_one : (plan : Plan) (n : ℕ) (got : Texts) (apdu v : List ℕ) (expect : Expect) (next : Option (List ℕ) → Plan) → Suits apdu expect (Some v) → Reaches plan n got (Asks apdu expect next) → Reaches plan (suc n) (got ++ v ∷ []) (next (Some v))
-answered_one plan zero [] apdu v expect next s h = answered_first plan apdu v expect next h s
-answered_one plan zero (one ∷ got) apdu v expect next s h = absurd h
-answered_one Over (suc n) got apdu v expect next s h = absurd h
-answered_one (Asks op AckOnly more) (suc n) [] apdu v expect next s h = answered_one (more None) n [] apdu v expect next s h
-answered_one (Asks op AckOnly more) (suc n) (one ∷ got) apdu v expect next s h = answered_one (more None) n (one ∷ got) apdu v expect next s h
-answered_one (Asks op (Is wanted) more) (suc n) [] apdu v expect next s h = absurd h
-answered_one (Asks op (Is wanted) more) (suc n) (one ∷ got) apdu v expect next s h = (h.0, answered_one (more (Some one)) n got apdu v expect next s h.1)
-answered_one (Asks op Note more) (suc n) [] apdu v expect next s h = absurd h
-answered_one (Asks op Note more) (suc n) (one ∷ got) apdu v expect next s h = (h.0, answered_one (more (Some one)) n got apdu v expect next s h.1)
+answered_one : (plan : Plan) (n : ℕ) (got : Texts) (place : ℕ) (apdu v : List ℕ) (expect : Expect) (next : Option (List ℕ) → Plan) → Suits apdu expect (Some v) → Reaches plan n got (Asks place apdu expect next) → Reaches plan (suc n) (got ++ v ∷ []) (next (Some v))
+answered_one plan zero [] place apdu v expect next s h = answered_first plan place apdu v expect next h s
+answered_one plan zero (one ∷ got) place apdu v expect next s h = absurd h
+answered_one Over (suc n) got place apdu v expect next s h = absurd h
+answered_one (Asks j op AckOnly more) (suc n) [] place apdu v expect next s h = answered_one (more None) n [] place apdu v expect next s h
+answered_one (Asks j op AckOnly more) (suc n) (one ∷ got) place apdu v expect next s h = answered_one (more None) n (one ∷ got) place apdu v expect next s h
+answered_one (Asks j op (Is wanted) more) (suc n) [] place apdu v expect next s h = absurd h
+answered_one (Asks j op (Is wanted) more) (suc n) (one ∷ got) place apdu v expect next s h = (h.0, answered_one (more (Some one)) n got place apdu v expect next s h.1)
+answered_one (Asks j op Note more) (suc n) [] place apdu v expect next s h = absurd h
+answered_one (Asks j op Note more) (suc n) (one ∷ got) place apdu v expect next s h = (h.0, answered_one (more (Some one)) n got place apdu v expect next s h.1)
 
 -- ---- what is put
 
 module _ (a : ℕ) (plan : Plan) (m : Moment) (n e : ℕ) (s : List Moment) where
   -- a service
-  asks_in : (j : ℕ) (apdu : List ℕ) (expect : Expect) (next : Option (List ℕ) → Plan) (left : Plan) (closing : Bool) → Says a m (Some (Numbered j apdu)) None None → j ≡ n → closing ≡ false → left ≡ Asks apdu expect next
-      → InSo a plan n e (Ready left closing) s → InSo a plan n e (Sends apdu expect next) (m ∷ s)
-  asks_in j apdu expect next left closing says same on head h =
+  asks_in : (j place : ℕ) (apdu : List ℕ) (expect : Expect) (next : Option (List ℕ) → Plan) (left : Plan) (closing : Bool) → Says a m (Some (Numbered j apdu)) None None → j ≡ n → closing ≡ false → left ≡ Asks place apdu expect next
+      → InSo a plan n e (Ready left closing) s → InSo a plan n e (Sends place apdu expect next) (m ∷ s)
+  asks_in j place apdu expect next left closing says same on head h =
       let p = Some (Numbered j apdu) in
       let more : services a (m ∷ s) ≡ apdu ∷ services a s = askeds a m p None None says s ∙ ap (λ o. service_put p o (services a s)) h.0.number_is in
-      let left_is : IsAt a plan (Asks apdu expect next) s = subst (λ z. IsAt a plan z s) head (subst (λ b. GoesSo a plan b left s) on h.1) in
+      let left_is : IsAt a plan (Asks place apdu expect next) s = subst (λ z. IsAt a plan z s) head (subst (λ b. GoesSo a plan b left s) on h.1) in
       let acked : acknowledged a (m ∷ s) ≡ acknowledged a s = ackeds a m p None None says s in
       let asked = h.0.asked_is in (
         record {
@@ -66,7 +66,7 @@ module _ (a : ℕ) (plan : Plan) (m : Moment) (n e : ℕ) (s : List Moment) wher
           expected_is = h.0.expected_is ∙ ap (λ (z : Texts). length z % 16) (sym (answereds a m p None None says s));
           asked_is = ap (λ (z : Texts). length z) more ∙ (let x : suc (length (services a s)) ≡ acknowledged a (m ∷ s) + 1 = omega (arith, asked, acked) in x);
         },
-        subst (λ z. Reaches plan z (reverse (answers a (m ∷ s))) (Asks apdu expect next)) (sym acked) (subst (λ z. Reaches plan (acknowledged a s) (reverse z) (Asks apdu expect next)) (sym (answereds a m p None None says s)) left_is),
+        subst (λ z. Reaches plan z (reverse (answers a (m ∷ s))) (Asks place apdu expect next)) (sym acked) (subst (λ z. Reaches plan (acknowledged a s) (reverse z) (Asks place apdu expect next)) (sym (answereds a m p None None says s)) left_is),
       )
 
   -- a T_ACK
@@ -136,10 +136,10 @@ module _ (a : ℕ) (plan : Plan) (m : Moment) (n e : ℕ) (s : List Moment) wher
     lacks_in : (left : Plan) → IsAt a plan left s → Lacks a plan left (m ∷ s)
     lacks_in left h = (acknowledged a s, sym acked_more, subst (λ z. Reaches plan (acknowledged a s) (reverse z) left) (sym answers_same) h)
 
-    next_in : (apdu : List ℕ) (next : Option (List ℕ) → Plan) → IsAt a plan (Asks apdu AckOnly next) s → IsAt a plan (next None) (m ∷ s)
-    next_in apdu next h =
+    next_in : (place : ℕ) (apdu : List ℕ) (next : Option (List ℕ) → Plan) → IsAt a plan (Asks place apdu AckOnly next) s → IsAt a plan (next None) (m ∷ s)
+    next_in place apdu next h =
         subst (λ z. Reaches plan z (reverse (answers a (m ∷ s))) (next None)) (sym acked_more)
-        (subst (λ z. Reaches plan (suc (acknowledged a s)) (reverse z) (next None)) (sym answers_same) (acknowledged_one plan (acknowledged a s) (reverse (answers a s)) apdu next h))
+        (subst (λ z. Reaches plan (suc (acknowledged a s)) (reverse z) (next None)) (sym answers_same) (acknowledged_one plan (acknowledged a s) (reverse (answers a s)) place apdu next h))
 
   -- the answer
   module _ (v : List ℕ) (says : Says a m None None (Some (Numbered e v))) (stands : Stands a (Next n) e s) where
@@ -166,15 +166,15 @@ module _ (a : ℕ) (plan : Plan) (m : Moment) (n e : ℕ) (s : List Moment) wher
     reversed = ap (λ (z : Texts). reverse z) answers_more ∙ reverse-append (v ∷ []) (answers a s)
 
     -- it is the wanted one
-    wanted_in : (apdu : List ℕ) (expect : Expect) (next : Option (List ℕ) → Plan) → Suits apdu expect (Some v) → Lacks a plan (Asks apdu expect next) s → IsAt a plan (next (Some v)) (m ∷ s)
-    wanted_in apdu expect next fits (k, last, r) =
-        subst (λ z. Reaches plan z (reverse (answers a (m ∷ s))) (next (Some v))) (last ∙ sym acked_same) (subst (λ z. Reaches plan (suc k) z (next (Some v))) (sym reversed) (answered_one plan k (reverse (answers a s)) apdu v expect next fits r))
+    wanted_in : (place : ℕ) (apdu : List ℕ) (expect : Expect) (next : Option (List ℕ) → Plan) → Suits apdu expect (Some v) → Lacks a plan (Asks place apdu expect next) s → IsAt a plan (next (Some v)) (m ∷ s)
+    wanted_in place apdu expect next fits (k, last, r) =
+        subst (λ z. Reaches plan z (reverse (answers a (m ∷ s))) (next (Some v))) (last ∙ sym acked_same) (subst (λ z. Reaches plan (suc k) z (next (Some v))) (sym reversed) (answered_one plan k (reverse (answers a s)) place apdu v expect next fits r))
 
     -- or not
-    refused_in : (left : Plan) (expected : List ℕ) → Differs left v expected → Lacks a plan left s → Refusal a plan (m ∷ s)
-    refused_in left expected differs (k, last, r) =
+    refused_in : (left : Plan) (op : ℕ) (expected : List ℕ) → Differs left op v expected → Lacks a plan left s → Refusal a plan (m ∷ s)
+    refused_in left op expected differs (k, last, r) =
         let asked = stands.asked_is in (
-          k,
+          op,
           v,
           expected,
           record {
@@ -184,6 +184,7 @@ module _ (a : ℕ) (plan : Plan) (m : Moment) (n e : ℕ) (s : List Moment) wher
             before = answers a s;
             taken = answers_more;
             why = inl (record {
+              earlier = k;
               last = ap (λ (z : Texts). length z) (askeds a m None None (Some (Numbered e v)) says s) ∙ (let x : length (services a s) ≡ suc k = omega (arith, asked, last) in x);
               left = left;
               so_far = r;
@@ -200,10 +201,10 @@ expected_of Note = []
 differs_not : (x y : List ℕ) (b : Bool) → b ≡ false → (x ≡ y → b ≡ true) → x ≢ y
 differs_not x y b e f same = let z : false ≡ true = sym e ∙ f same in cc
 
-pub differs : (apdu : List ℕ) (expect : Expect) (next : Option (List ℕ) → Plan) (v : List ℕ) → expect ≢ AckOnly → suits (Asks apdu expect next) v ≡ false → Differs (Asks apdu expect next) v (expected_of expect)
-differs apdu AckOnly next v some h = absurd (some refl)
-differs apdu (Is wanted) next v some h = (refl, differs_not v wanted (suits (Asks apdu (Is wanted) next) v) h (λ same. (bytes_eq-Decides v wanted).1 same))
-differs apdu Note next v some h = (refl, h)
+pub differs : (place : ℕ) (apdu : List ℕ) (expect : Expect) (next : Option (List ℕ) → Plan) (v : List ℕ) → expect ≢ AckOnly → suits (Asks place apdu expect next) v ≡ false → Differs (Asks place apdu expect next) place v (expected_of expect)
+differs place apdu AckOnly next v some h = absurd (some refl)
+differs place apdu (Is wanted) next v some h = (refl, differs_not v wanted (suits (Asks place apdu (Is wanted) next) v) h (λ same. (bytes_eq-Decides v wanted).1 same), refl)
+differs place apdu Note next v some h = (refl, h, refl)
 
 -- ---- the books
 
@@ -212,14 +213,14 @@ module _ (W : Type 0) (a : ℕ) (plan : Plan) (m : Moment) (l : List Moment) (k 
   begins_books says undecided (inl (zero_is, none)) = inr (ap suc zero_is, one_begins a m l IsOpening says.put none tt)
   begins_books says undecided (inr (one, o)) = absurd (undecided o)
 
-  pub asks_books : (j : ℕ) (apdu : List ℕ) (expect : Expect) (next : Option (List ℕ) → Plan) (left : Plan) (closing : Bool) → Says a m (Some (Numbered j apdu)) None None → j ≡ n → closing ≡ false → left ≡ Asks apdu expect next
-      → Books W a plan k n e (Ready left closing) l → Books W a plan k n e (Sends apdu expect next) (m ∷ l)
-  asks_books j apdu expect next left closing says same on head (inl b) = absurd b
-  asks_books j apdu expect next left closing says same on head (inr (one, o)) =
+  pub asks_books : (j place : ℕ) (apdu : List ℕ) (expect : Expect) (next : Option (List ℕ) → Plan) (left : Plan) (closing : Bool) → Says a m (Some (Numbered j apdu)) None None → j ≡ n → closing ≡ false → left ≡ Asks place apdu expect next
+      → Books W a plan k n e (Ready left closing) l → Books W a plan k n e (Sends place apdu expect next) (m ∷ l)
+  asks_books j place apdu expect next left closing says same on head (inl b) = absurd b
+  asks_books j place apdu expect next left closing says same on head (inr (one, o)) =
       inr (
         one,
-        one_more a m l (CourseIs W a plan n e (Ready left closing)) (CourseIs W a plan n e (Sends apdu expect next)) (ap is_connect says.put)
-            (in_on a m (Some (Numbered j apdu)) None None says (InSo a plan n e (Ready left closing)) (InSo a plan n e (Sends apdu expect next)) (λ s h. (refl, asks_in a plan m n e s j apdu expect next left closing says same on head h))) o,
+        one_more a m l (CourseIs W a plan n e (Ready left closing)) (CourseIs W a plan n e (Sends place apdu expect next)) (ap is_connect says.put)
+            (in_on a m (Some (Numbered j apdu)) None None says (InSo a plan n e (Ready left closing)) (InSo a plan n e (Sends place apdu expect next)) (λ s h. (refl, asks_in a plan m n e s j place apdu expect next left closing says same on head h))) o,
       )
 
   pub ack_books : (left : Plan) (closing : Bool) (v : List ℕ) (j : ℕ) → Says a m (Some (Ack j)) None None → Books W a plan k n e (Owes left closing v j) l → Books W a plan k n e (Acks true left closing v j) (m ∷ l)
@@ -250,8 +251,8 @@ module _ (W : Type 0) (a : ℕ) (plan : Plan) (m : Moment) (l : List Moment) (k 
   opened_books says (inr (one, o)) =
       inr (one, one_more a m l IsOpening (IsIn (InSo a plan 0 0 (Ready plan false))) (ap is_connect says.put) (opened a m None (Some false) None says (InSo a plan 0 0 (Ready plan false)) refl opened_in) o)
 
-  pub served_books : (apdu : List ℕ) (expect : Expect) (next : Option (List ℕ) → Plan) (o : Option (List ℕ)) → Says a m None (Some false) None → Books W a plan k n e (Served true apdu expect next o) l → Books W a plan k n e (Served false apdu expect next o) (m ∷ l)
-  served_books apdu expect next o says h = books_more W a plan m (Some false) says n e k (Served false apdu expect next o) l (inr tt) h
+  pub served_books : (place : ℕ) (apdu : List ℕ) (expect : Expect) (next : Option (List ℕ) → Plan) (o : Option (List ℕ)) → Says a m None (Some false) None → Books W a plan k n e (Served true place apdu expect next o) l → Books W a plan k n e (Served false place apdu expect next o) (m ∷ l)
+  served_books place apdu expect next o says h = books_more W a plan m (Some false) says n e k (Served false place apdu expect next o) l (inr tt) h
 
   to_ready : (left : Plan) (closing : Bool) (v : List ℕ) (j : ℕ) (x : List Moment) → Books W a plan k n e (Acks false left closing v j) x → Books W a plan k n e (Ready left closing) x
   to_ready left closing v j x (inl b) = absurd b
@@ -269,43 +270,43 @@ module _ (W : Type 0) (a : ℕ) (plan : Plan) (m : Moment) (l : List Moment) (k 
 
   -- ---- frames of the device
 
-  pub lacks_books : (apdu : List ℕ) (expect : Expect) (next : Option (List ℕ) → Plan) (v : List ℕ) → Says a m None None (Some (Ack n)) → Books W a plan k n e (Served false apdu expect next (Some v)) l → Books W a plan k (next_number n) e (Awaits apdu expect next v) (m ∷ l)
-  lacks_books apdu expect next v says (inl b) = absurd b
-  lacks_books apdu expect next v says (inr (one, o)) =
+  pub lacks_books : (place : ℕ) (apdu : List ℕ) (expect : Expect) (next : Option (List ℕ) → Plan) (v : List ℕ) → Says a m None None (Some (Ack n)) → Books W a plan k n e (Served false place apdu expect next (Some v)) l → Books W a plan k (next_number n) e (Awaits place apdu expect next v) (m ∷ l)
+  lacks_books place apdu expect next v says (inl b) = absurd b
+  lacks_books place apdu expect next v says (inr (one, o)) =
       inr (
         one,
-        one_more a m l (CourseIs W a plan n e (Served false apdu expect next (Some v))) (CourseIs W a plan (next_number n) e (Awaits apdu expect next v)) (ap is_connect says.put)
-            (in_on a m None None (Some (Ack n)) says (InSo a plan n e (Served false apdu expect next (Some v))) (InSo a plan (next_number n) e (Awaits apdu expect next v))
-            (λ s h. (goes_on a plan m n e s says h.0, (acked_stands a plan m n e s says h.0, lacks_in a plan m n e s says h.0 (Asks apdu expect next) h.1)))) o,
+        one_more a m l (CourseIs W a plan n e (Served false place apdu expect next (Some v))) (CourseIs W a plan (next_number n) e (Awaits place apdu expect next v)) (ap is_connect says.put)
+            (in_on a m None None (Some (Ack n)) says (InSo a plan n e (Served false place apdu expect next (Some v))) (InSo a plan (next_number n) e (Awaits place apdu expect next v))
+            (λ s h. (goes_on a plan m n e s says h.0, (acked_stands a plan m n e s says h.0, lacks_in a plan m n e s says h.0 (Asks place apdu expect next) h.1)))) o,
       )
 
-  pub next_books : (apdu : List ℕ) (next : Option (List ℕ) → Plan) → Says a m None None (Some (Ack n)) → Books W a plan k n e (Served false apdu AckOnly next None) l → Books W a plan k (next_number n) e (Ready (next None) false) (m ∷ l)
-  next_books apdu next says (inl b) = absurd b
-  next_books apdu next says (inr (one, o)) =
+  pub next_books : (place : ℕ) (apdu : List ℕ) (next : Option (List ℕ) → Plan) → Says a m None None (Some (Ack n)) → Books W a plan k n e (Served false place apdu AckOnly next None) l → Books W a plan k (next_number n) e (Ready (next None) false) (m ∷ l)
+  next_books place apdu next says (inl b) = absurd b
+  next_books place apdu next says (inr (one, o)) =
       inr (
         one,
-        one_more a m l (CourseIs W a plan n e (Served false apdu AckOnly next None)) (CourseIs W a plan (next_number n) e (Ready (next None) false)) (ap is_connect says.put)
-            (in_on a m None None (Some (Ack n)) says (InSo a plan n e (Served false apdu AckOnly next None)) (InSo a plan (next_number n) e (Ready (next None) false))
-            (λ s h. (goes_on a plan m n e s says h.0, (acked_stands a plan m n e s says h.0, next_in a plan m n e s says h.0 apdu next h.1)))) o,
+        one_more a m l (CourseIs W a plan n e (Served false place apdu AckOnly next None)) (CourseIs W a plan (next_number n) e (Ready (next None) false)) (ap is_connect says.put)
+            (in_on a m None None (Some (Ack n)) says (InSo a plan n e (Served false place apdu AckOnly next None)) (InSo a plan (next_number n) e (Ready (next None) false))
+            (λ s h. (goes_on a plan m n e s says h.0, (acked_stands a plan m n e s says h.0, next_in a plan m n e s says h.0 place apdu next h.1)))) o,
       )
 
-  pub wanted_books : (apdu : List ℕ) (expect : Expect) (next : Option (List ℕ) → Plan) (v : List ℕ) → Says a m None None (Some (Numbered e v)) → Suits apdu expect (Some v) → Books W a plan k n e (Awaits apdu expect next v) l → Books W a plan k n (next_number e) (Owes (next (Some v)) false v e) (m ∷ l)
-  wanted_books apdu expect next v says fits (inl b) = absurd b
-  wanted_books apdu expect next v says fits (inr (one, o)) =
+  pub wanted_books : (place : ℕ) (apdu : List ℕ) (expect : Expect) (next : Option (List ℕ) → Plan) (v : List ℕ) → Says a m None None (Some (Numbered e v)) → Suits apdu expect (Some v) → Books W a plan k n e (Awaits place apdu expect next v) l → Books W a plan k n (next_number e) (Owes (next (Some v)) false v e) (m ∷ l)
+  wanted_books place apdu expect next v says fits (inl b) = absurd b
+  wanted_books place apdu expect next v says fits (inr (one, o)) =
       inr (
         one,
-        one_more a m l (CourseIs W a plan n e (Awaits apdu expect next v)) (CourseIs W a plan n (next_number e) (Owes (next (Some v)) false v e)) (ap is_connect says.put)
-            (in_on a m None None (Some (Numbered e v)) says (InSo a plan n e (Awaits apdu expect next v)) (InSo a plan n (next_number e) (Owes (next (Some v)) false v e))
-            (λ s h. (refl, (answered_stands a plan m n e s v says h.0, wanted_in a plan m n e s v says h.0 apdu expect next fits h.1)))) o,
+        one_more a m l (CourseIs W a plan n e (Awaits place apdu expect next v)) (CourseIs W a plan n (next_number e) (Owes (next (Some v)) false v e)) (ap is_connect says.put)
+            (in_on a m None None (Some (Numbered e v)) says (InSo a plan n e (Awaits place apdu expect next v)) (InSo a plan n (next_number e) (Owes (next (Some v)) false v e))
+            (λ s h. (refl, (answered_stands a plan m n e s v says h.0, wanted_in a plan m n e s v says h.0 place apdu expect next fits h.1)))) o,
       )
 
-  pub refused_books : (apdu : List ℕ) (expect : Expect) (next : Option (List ℕ) → Plan) (v : List ℕ) → Says a m None None (Some (Numbered e v)) → expect ≢ AckOnly → suits (Asks apdu expect next) v ≡ false
-      → Books W a plan k n e (Awaits apdu expect next v) l → Books W a plan k n (next_number e) (Owes (Asks apdu expect next) true v e) (m ∷ l)
-  refused_books apdu expect next v says some unfit (inl b) = absurd b
-  refused_books apdu expect next v says some unfit (inr (one, o)) =
+  pub refused_books : (place : ℕ) (apdu : List ℕ) (expect : Expect) (next : Option (List ℕ) → Plan) (v : List ℕ) → Says a m None None (Some (Numbered e v)) → expect ≢ AckOnly → suits (Asks place apdu expect next) v ≡ false
+      → Books W a plan k n e (Awaits place apdu expect next v) l → Books W a plan k n (next_number e) (Owes (Asks place apdu expect next) true v e) (m ∷ l)
+  refused_books place apdu expect next v says some unfit (inl b) = absurd b
+  refused_books place apdu expect next v says some unfit (inr (one, o)) =
       inr (
         one,
-        one_more a m l (CourseIs W a plan n e (Awaits apdu expect next v)) (CourseIs W a plan n (next_number e) (Owes (Asks apdu expect next) true v e)) (ap is_connect says.put)
-            (in_on a m None None (Some (Numbered e v)) says (InSo a plan n e (Awaits apdu expect next v)) (InSo a plan n (next_number e) (Owes (Asks apdu expect next) true v e))
-            (λ s h. (refl, (answered_stands a plan m n e s v says h.0, refused_in a plan m n e s v says h.0 (Asks apdu expect next) (expected_of expect) (differs apdu expect next v some unfit) h.1)))) o,
+        one_more a m l (CourseIs W a plan n e (Awaits place apdu expect next v)) (CourseIs W a plan n (next_number e) (Owes (Asks place apdu expect next) true v e)) (ap is_connect says.put)
+            (in_on a m None None (Some (Numbered e v)) says (InSo a plan n e (Awaits place apdu expect next v)) (InSo a plan n (next_number e) (Owes (Asks place apdu expect next) true v e))
+            (λ s h. (refl, (answered_stands a plan m n e s v says h.0, refused_in a plan m n e s v says h.0 (Asks place apdu expect next) place (expected_of expect) (differs place apdu expect next v some unfit) h.1)))) o,
       )

@@ -158,7 +158,7 @@ acknowledges kept = (tt, (refl, (tt, (tt, (tt, (refl, (tt, (tt, (tt, (refl, (tt,
 
 asks : (kept : NonVolatile) → EachAsked (job ∷ []) [] told (placed (begin kept) calm_session)
 unfolding datagram_in ldata_in gateway_took frame_in device_took device_after device_answered after_answer apdu_in tpdu_in service_in after_entry deed client_sent after_send client_took client_after client_expired after_overdue after_confirmed
-asks kept = (tt, (tt, (tt, (tt, (record { frame = to_device (0x81 ∷ []); reads = refl; request = refl; place = record { acknowledged = refl; has_confirmation = refl }; why = inr (record { k = 1; job = job; there = refl; worker = 1; since = 4; held = refl; alone = refl; to = refl; may = inl (record { acknowledged = refl; owes_nothing = refl; which = inr (record { session = record { partner = device; expected = 1; number = 1; last = 0 }; up = refl; all = refl }) }) }) }, (tt, (tt, (tt, (record { frame = to_device (0xC2 ∷ []); reads = refl; request = refl; place = record { acknowledged = refl; has_confirmation = refl }; why = inr (record { k = 1; job = job; there = refl; worker = 1; since = 4; held = refl; alone = refl; to = refl; may = ([], refl) }) }, (tt, (tt, (tt, (tt, (tt, (tt, (tt, (record { frame = to_device (0x43 ∷ 0x00 ∷ []); reads = refl; request = refl; place = record { acknowledged = refl; has_confirmation = refl }; why = inr (record { k = 1; job = job; there = refl; worker = 1; since = 4; held = refl; alone = refl; to = refl; may = record { owes_nothing = refl; which = inl (record { session = record { partner = device; expected = 0; number = 0; last = 0 }; up = refl; goes_on = refl; expect = Is (0x03 ∷ 0x40 ∷ 0x07 ∷ 0xB0 ∷ []); next = λ answer. Over; head = refl; as_sent = refl }) } }) }, (tt, (tt, (tt, (record { frame = to_device (0x80 ∷ []); reads = refl; request = refl; place = record { acknowledged = refl; has_confirmation = refl }; why = inr (record { k = 1; job = job; there = refl; worker = 1; since = 4; held = refl; alone = refl; to = refl; may = omega arith }) }, (tt, (tt, (tt, tt))))))))))))))))))))))))
+asks kept = (tt, (tt, (tt, (tt, (record { frame = to_device (0x81 ∷ []); reads = refl; request = refl; place = record { acknowledged = refl; has_confirmation = refl }; why = inr (record { k = 1; job = job; there = refl; worker = 1; since = 4; held = refl; alone = refl; to = refl; may = inl (record { acknowledged = refl; owes_nothing = refl; which = inr (record { session = record { partner = device; expected = 1; number = 1; last = 0 }; up = refl; all = refl }) }) }) }, (tt, (tt, (tt, (record { frame = to_device (0xC2 ∷ []); reads = refl; request = refl; place = record { acknowledged = refl; has_confirmation = refl }; why = inr (record { k = 1; job = job; there = refl; worker = 1; since = 4; held = refl; alone = refl; to = refl; may = ([], refl) }) }, (tt, (tt, (tt, (tt, (tt, (tt, (tt, (record { frame = to_device (0x43 ∷ 0x00 ∷ []); reads = refl; request = refl; place = record { acknowledged = refl; has_confirmation = refl }; why = inr (record { k = 1; job = job; there = refl; worker = 1; since = 4; held = refl; alone = refl; to = refl; may = record { owes_nothing = refl; which = inl (record { session = record { partner = device; expected = 0; number = 0; last = 0 }; up = refl; goes_on = refl; place = 0; expect = Is (0x03 ∷ 0x40 ∷ 0x07 ∷ 0xB0 ∷ []); next = λ answer. Over; head = refl; as_sent = refl }) } }) }, (tt, (tt, (tt, (record { frame = to_device (0x80 ∷ []); reads = refl; request = refl; place = record { acknowledged = refl; has_confirmation = refl }; why = inr (record { k = 1; job = job; there = refl; worker = 1; since = 4; held = refl; alone = refl; to = refl; may = omega arith }) }, (tt, (tt, (tt, tt))))))))))))))))))))))))
 
 -- ---- its log
 

@@ -38,9 +38,9 @@ pub data Phase : Type 0 where
   Rests : Phase
   Opens : Bool → Phase  -- the T_Connect, with true on its way, and else over the bus
   Ready : Plan → Bool → Phase  -- this is left of the plan; it comes to its end or not
-  Sends : List ℕ → Expect → (Option (List ℕ) → Plan) → Phase  -- a service is on its way
-  Served : Bool → List ℕ → Expect → (Option (List ℕ) → Plan) → Option (List ℕ) → Phase  -- the device took it and answers this; with true its confirmation is on its way too
-  Awaits : List ℕ → Expect → (Option (List ℕ) → Plan) → List ℕ → Phase  -- the answer is on its way
+  Sends : ℕ → List ℕ → Expect → (Option (List ℕ) → Plan) → Phase  -- a service is on its way
+  Served : Bool → ℕ → List ℕ → Expect → (Option (List ℕ) → Plan) → Option (List ℕ) → Phase  -- the device took it and answers this; with true its confirmation is on its way too
+  Awaits : ℕ → List ℕ → Expect → (Option (List ℕ) → Plan) → List ℕ → Phase  -- the answer is on its way
   Owes : Plan → Bool → List ℕ → ℕ → Phase  -- the answer with this number came and isn't acknowledged
   Acks : Bool → Plan → Bool → List ℕ → ℕ → Phase  -- its T_ACK is on its way, or over the bus
   Leaves : Bool → Plan → Phase  -- the T_Disconnect
@@ -51,9 +51,9 @@ fly_at n Rests = None
 fly_at n (Opens true) = Some Connect
 fly_at n (Opens false) = None
 fly_at n (Ready left closing) = None
-fly_at n (Sends apdu expect next) = Some (Numbered n apdu)
-fly_at n (Served told apdu expect next o) = None
-fly_at n (Awaits apdu expect next v) = None
+fly_at n (Sends place apdu expect next) = Some (Numbered n apdu)
+fly_at n (Served told place apdu expect next o) = None
+fly_at n (Awaits place apdu expect next v) = None
 fly_at n (Owes left closing v m) = None
 fly_at n (Acks true left closing v m) = Some (Ack m)
 fly_at n (Acks false left closing v m) = None
@@ -71,10 +71,10 @@ stream_at n e Rests = []
 stream_at n e (Opens true) = []
 stream_at n e (Opens false) = Told ∷ []
 stream_at n e (Ready left closing) = []
-stream_at n e (Sends apdu expect next) = []
-stream_at n e (Served true apdu expect next o) = Told ∷ Heard (Ack n) ∷ answer_items e o
-stream_at n e (Served false apdu expect next o) = Heard (Ack n) ∷ answer_items e o
-stream_at n e (Awaits apdu expect next v) = Heard (Numbered e v) ∷ []
+stream_at n e (Sends place apdu expect next) = []
+stream_at n e (Served true place apdu expect next o) = Told ∷ Heard (Ack n) ∷ answer_items e o
+stream_at n e (Served false place apdu expect next o) = Heard (Ack n) ∷ answer_items e o
+stream_at n e (Awaits place apdu expect next v) = Heard (Numbered e v) ∷ []
 stream_at n e (Owes left closing v m) = []
 stream_at n e (Acks true left closing v m) = []
 stream_at n e (Acks false left closing v m) = Told ∷ []
@@ -108,9 +108,9 @@ module _ (me device : IndAddr) (plan : Plan) where
   attempts_at k n e now Rests = Resting k
   attempts_at k n e now (Opens fly) = Running k (first device plan)
   attempts_at k n e now (Ready left closing) = Running k (attempt_of (Up (client_at device n e now)) left [] None closing)
-  attempts_at k n e now (Sends apdu expect next) = Running k (attempt_of (Asking (client_at device n e now) (waiting_question n apdu None)) (sent_of (Asks apdu expect next)) [] (Some (Numbered n apdu)) false)
-  attempts_at k n e now (Served told apdu expect next o) = Running k (attempt_of (Asking (client_at device n e now) (waiting_question n apdu (confirmed_if told now))) (sent_of (Asks apdu expect next)) [] (flying_if told (Numbered n apdu)) false)
-  attempts_at k n e now (Awaits apdu expect next v) = Running k (attempt_of (Awaiting (client_at device n e now)) (sent_of (Asks apdu expect next)) [] None false)
+  attempts_at k n e now (Sends place apdu expect next) = Running k (attempt_of (Asking (client_at device n e now) (waiting_question n apdu None)) (sent_of (Asks place apdu expect next)) [] (Some (Numbered n apdu)) false)
+  attempts_at k n e now (Served told place apdu expect next o) = Running k (attempt_of (Asking (client_at device n e now) (waiting_question n apdu (confirmed_if told now))) (sent_of (Asks place apdu expect next)) [] (flying_if told (Numbered n apdu)) false)
+  attempts_at k n e now (Awaits place apdu expect next v) = Running k (attempt_of (Awaiting (client_at device n e now)) (sent_of (Asks place apdu expect next)) [] None false)
   attempts_at k n e now (Owes left closing v m) = Running k (attempt_of (Up (client_at device n e now)) left (Written (tpdu.Ack m) ∷ []) None closing)
   attempts_at k n e now (Acks fly left closing v m) = Running k (attempt_of (Up (client_at device n e now)) left [] (Some (Ack m)) closing)
   attempts_at k n e now (Leaves fly left) = Running k (attempt_of Ended left [] (Some Disconnect) true)
@@ -124,9 +124,9 @@ module _ (me device : IndAddr) (plan : Plan) where
   connection_at n e now (Opens true) = Closed
   connection_at n e now (Opens false) = Idle (device_at me 0 0 now)
   connection_at n e now (Ready left closing) = Idle (device_at me n e now)
-  connection_at n e now (Sends apdu expect next) = Idle (device_at me n e now)
-  connection_at n e now (Served told apdu expect next o) = answering_at (next_number n) e now o
-  connection_at n e now (Awaits apdu expect next v) = answering_at n e now (Some v)
+  connection_at n e now (Sends place apdu expect next) = Idle (device_at me n e now)
+  connection_at n e now (Served told place apdu expect next o) = answering_at (next_number n) e now o
+  connection_at n e now (Awaits place apdu expect next v) = answering_at n e now (Some v)
   connection_at n e now (Owes left closing v m) = answering_at n m now (Some v)
   connection_at n e now (Acks true left closing v m) = answering_at n m now (Some v)
   connection_at n e now (Acks false left closing v m) = Idle (device_at me n e now)
@@ -139,8 +139,8 @@ pub record Goes (left : Plan) (closing : Bool) (frames : FrameSupport) (kept : N
   pub sendable : IsSendable left
   pub served : closing ≡ false → IsServed frames left kept
 
-pub record Answers (apdu : List ℕ) (expect : Expect) (next : Option (List ℕ) → Plan) (o : Option (List ℕ)) (frames : FrameSupport) (kept : NonVolatile) : Type 0 where
-  pub sendable : IsSendable (Asks apdu expect next)
+pub record Answers (place : ℕ) (apdu : List ℕ) (expect : Expect) (next : Option (List ℕ) → Plan) (o : Option (List ℕ)) (frames : FrameSupport) (kept : NonVolatile) : Type 0 where
+  pub sendable : IsSendable (Asks place apdu expect next)
   pub exactly : is_some o ≡ has_answer apdu
   pub served : Suits apdu expect o → IsServed frames (next o) kept
 
@@ -152,9 +152,9 @@ abbrev pub IsGood : Plan → ℕ → Phase → FrameSupport → NonVolatile → 
 IsGood plan e Rests frames kept = Unit {0}
 IsGood plan e (Opens fly) frames kept = Goes plan false frames kept
 IsGood plan e (Ready left closing) frames kept = Goes left closing frames kept
-IsGood plan e (Sends apdu expect next) frames kept = Goes (Asks apdu expect next) false frames kept
-IsGood plan e (Served told apdu expect next o) frames kept = Answers apdu expect next o frames kept
-IsGood plan e (Awaits apdu expect next v) frames kept = Answers apdu expect next (Some v) frames kept
+IsGood plan e (Sends place apdu expect next) frames kept = Goes (Asks place apdu expect next) false frames kept
+IsGood plan e (Served told place apdu expect next o) frames kept = Answers place apdu expect next o frames kept
+IsGood plan e (Awaits place apdu expect next v) frames kept = Answers place apdu expect next (Some v) frames kept
 IsGood plan e (Owes left closing v m) frames kept = Goes left closing frames kept × Follows m e
 IsGood plan e (Acks fly left closing v m) frames kept = Goes left closing frames kept × Follows m e
 IsGood plan e (Leaves fly left) frames kept = Unit {0}
@@ -166,9 +166,9 @@ abbrev pub Wants : Type 0 → Plan → ℕ → Phase → FrameSupport → NonVol
 Wants W plan k Rests frames kept = k ≡ 0 → W → AnswersAll (answer_in frames) plan kept
 Wants W plan k (Opens fly) frames kept = W → AnswersAll (answer_in frames) plan kept
 Wants W plan k (Ready left closing) frames kept = W → (closing ≡ false) × AnswersAll (answer_in frames) left kept
-Wants W plan k (Sends apdu expect next) frames kept = W → AnswersAll (answer_in frames) (Asks apdu expect next) kept
-Wants W plan k (Served told apdu expect next o) frames kept = W → Suits apdu expect o × AnswersAll (answer_in frames) (next o) kept
-Wants W plan k (Awaits apdu expect next v) frames kept = W → Suits apdu expect (Some v) × AnswersAll (answer_in frames) (next (Some v)) kept
+Wants W plan k (Sends place apdu expect next) frames kept = W → AnswersAll (answer_in frames) (Asks place apdu expect next) kept
+Wants W plan k (Served told place apdu expect next o) frames kept = W → Suits apdu expect o × AnswersAll (answer_in frames) (next o) kept
+Wants W plan k (Awaits place apdu expect next v) frames kept = W → Suits apdu expect (Some v) × AnswersAll (answer_in frames) (next (Some v)) kept
 Wants W plan k (Owes left closing v m) frames kept = W → (closing ≡ false) × AnswersAll (answer_in frames) left kept
 Wants W plan k (Acks fly left closing v m) frames kept = W → (closing ≡ false) × AnswersAll (answer_in frames) left kept
 Wants W plan k (Leaves fly left) frames kept = k ≡ 1

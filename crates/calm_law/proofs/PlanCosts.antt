@@ -26,10 +26,10 @@ unfolding total
 total_append [] ys = omega arith
 total_append (x ∷ xs) ys = let rest = total_append xs ys in omega (arith, rest)
 
-listed_costs : (ops : List Operation) (n : ℕ) → total ops ≤ n → CostsAtMost (listed ops) n
+listed_costs : (place : ℕ) (ops : List Operation) (n : ℕ) → total ops ≤ n → CostsAtMost (listed place ops) n
 unfolding total
-listed_costs [] n few = tt
-listed_costs (x ∷ xs) n few = (total xs, omega (arith, few), λ o fits. listed_costs xs (total xs) (omega arith))
+listed_costs place [] n few = tt
+listed_costs place (x ∷ xs) n few = (total xs, omega (arith, few), λ o fits. listed_costs (suc place) xs (total xs) (omega arith))
 
 each_total : (f : ℕ → Operation) (c : ℕ) → ((k : ℕ) → op_cost (expect_of (f k).expected) ≡ c) → (a n : ℕ) → total (map f (range_with_len a n)) ≡ n * c
 unfolding total
@@ -121,7 +121,7 @@ check_total image size =
 -- ---- the plans
 
 opened_costs : (operations : PieceSize → List Operation) (cost : ℕ) → ((size : PieceSize) → total (operations size) ≤ cost) → CostsAtMost (opened operations) (12 + cost)
-opened_costs operations cost few = (6 + cost, omega arith, λ o fits. (cost, omega arith, λ answer wanted. listed_costs (operations (size_by answer)) cost (few (size_by answer))))
+opened_costs operations cost few = (6 + cost, omega arith, λ o fits. (cost, omega arith, λ answer wanted. listed_costs 2 (operations (size_by answer)) cost (few (size_by answer))))
 
 pub load_costs : (image : Image) → CostsAtMost (load_plan image) (load_cost image)
 unfolding load_plan

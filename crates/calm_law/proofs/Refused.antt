@@ -20,29 +20,29 @@ Texts = List (List ℕ)
 
 -- ---- a plan that goes on past an answer wants it
 
-head_not : (plan : Plan) (n : ℕ) (later : Texts) (got expected : List ℕ) (y : Plan) → Differs plan got expected → Reaches plan n (got ∷ later) y → ⊥
-head_not Over zero later got expected y d r = d
-head_not Over (suc n) later got expected y d r = d
-head_not (Asks apdu AckOnly next) n later got expected y d r = d
-head_not (Asks apdu (Is wanted) next) zero later got expected y d r = r
-head_not (Asks apdu (Is wanted) next) (suc n) later got expected y d r = d.1 r.0
-head_not (Asks apdu Note next) zero later got expected y d r = r
-head_not (Asks apdu Note next) (suc n) later got expected y d r = let c : true ≡ false = sym r.0 ∙ d.1 in cc
+head_not : (plan : Plan) (n : ℕ) (later : Texts) (op : ℕ) (got expected : List ℕ) (y : Plan) → Differs plan op got expected → Reaches plan n (got ∷ later) y → ⊥
+head_not Over zero later op got expected y d r = d
+head_not Over (suc n) later op got expected y d r = d
+head_not (Asks place apdu AckOnly next) n later op got expected y d r = d
+head_not (Asks place apdu (Is wanted) next) zero later op got expected y d r = r
+head_not (Asks place apdu (Is wanted) next) (suc n) later op got expected y d r = d.1 r.0
+head_not (Asks place apdu Note next) zero later op got expected y d r = r
+head_not (Asks place apdu Note next) (suc n) later op got expected y d r = let c : true ≡ false = sym r.0 ∙ d.1 in cc
 
-clashes : (plan : Plan) (op n : ℕ) (before later : Texts) (got expected : List ℕ) (left y : Plan) → Reaches plan op before left → Differs left got expected → Reaches plan n (before ++ got ∷ later) y → ⊥
-clashes plan zero n [] later got expected left y h d r = head_not left n later got expected y d (subst (λ z. Reaches z n (got ∷ later) y) h r)
-clashes plan zero n (x ∷ before) later got expected left y h d r = h
-clashes Over (suc op) n before later got expected left y h d r = h
-clashes (Asks apdu AckOnly next) (suc op) zero [] later got expected left y h d r = r
-clashes (Asks apdu AckOnly next) (suc op) zero (x ∷ before) later got expected left y h d r = r
-clashes (Asks apdu AckOnly next) (suc op) (suc n) [] later got expected left y h d r = clashes (next None) op n [] later got expected left y h d r
-clashes (Asks apdu AckOnly next) (suc op) (suc n) (x ∷ before) later got expected left y h d r = clashes (next None) op n (x ∷ before) later got expected left y h d r
-clashes (Asks apdu (Is wanted) next) (suc op) n [] later got expected left y h d r = h
-clashes (Asks apdu (Is wanted) next) (suc op) zero (x ∷ before) later got expected left y h d r = r
-clashes (Asks apdu (Is wanted) next) (suc op) (suc n) (x ∷ before) later got expected left y h d r = clashes (next (Some x)) op n before later got expected left y h.1 d r.1
-clashes (Asks apdu Note next) (suc op) n [] later got expected left y h d r = h
-clashes (Asks apdu Note next) (suc op) zero (x ∷ before) later got expected left y h d r = r
-clashes (Asks apdu Note next) (suc op) (suc n) (x ∷ before) later got expected left y h d r = clashes (next (Some x)) op n before later got expected left y h.1 d r.1
+clashes : (plan : Plan) (k n : ℕ) (before later : Texts) (op : ℕ) (got expected : List ℕ) (left y : Plan) → Reaches plan k before left → Differs left op got expected → Reaches plan n (before ++ got ∷ later) y → ⊥
+clashes plan zero n [] later op got expected left y h d r = head_not left n later op got expected y d (subst (λ z. Reaches z n (got ∷ later) y) h r)
+clashes plan zero n (x ∷ before) later op got expected left y h d r = h
+clashes Over (suc k) n before later op got expected left y h d r = h
+clashes (Asks place apdu AckOnly next) (suc k) zero [] later op got expected left y h d r = r
+clashes (Asks place apdu AckOnly next) (suc k) zero (x ∷ before) later op got expected left y h d r = r
+clashes (Asks place apdu AckOnly next) (suc k) (suc n) [] later op got expected left y h d r = clashes (next None) k n [] later op got expected left y h d r
+clashes (Asks place apdu AckOnly next) (suc k) (suc n) (x ∷ before) later op got expected left y h d r = clashes (next None) k n (x ∷ before) later op got expected left y h d r
+clashes (Asks place apdu (Is wanted) next) (suc k) n [] later op got expected left y h d r = h
+clashes (Asks place apdu (Is wanted) next) (suc k) zero (x ∷ before) later op got expected left y h d r = r
+clashes (Asks place apdu (Is wanted) next) (suc k) (suc n) (x ∷ before) later op got expected left y h d r = clashes (next (Some x)) k n before later op got expected left y h.1 d r.1
+clashes (Asks place apdu Note next) (suc k) n [] later op got expected left y h d r = h
+clashes (Asks place apdu Note next) (suc k) zero (x ∷ before) later op got expected left y h d r = r
+clashes (Asks place apdu Note next) (suc k) (suc n) (x ∷ before) later op got expected left y h d r = clashes (next (Some x)) k n before later op got expected left y h.1 d r.1
 
 -- one more answer than so many operations take
 too_many : (plan : Plan) (n k : ℕ) (got later : Texts) (one : List ℕ) (x y : Plan) → k ≤ n → Reaches plan n got x → Reaches plan k (got ++ one ∷ later) y → ⊥
@@ -52,12 +52,12 @@ too_many plan zero (suc k) got later one x y le h g = omega (arith, le)
 too_many plan (suc n) zero [] later one x y le h g = g
 too_many plan (suc n) zero (z ∷ got) later one x y le h g = g
 too_many Over (suc n) (suc k) got later one x y le h g = h
-too_many (Asks apdu AckOnly next) (suc n) (suc k) [] later one x y le h g = too_many (next None) n k [] later one x y (omega (arith, le)) h g
-too_many (Asks apdu AckOnly next) (suc n) (suc k) (z ∷ got) later one x y le h g = too_many (next None) n k (z ∷ got) later one x y (omega (arith, le)) h g
-too_many (Asks apdu (Is wanted) next) (suc n) (suc k) [] later one x y le h g = h
-too_many (Asks apdu (Is wanted) next) (suc n) (suc k) (z ∷ got) later one x y le h g = too_many (next (Some z)) n k got later one x y (omega (arith, le)) h.1 g.1
-too_many (Asks apdu Note next) (suc n) (suc k) [] later one x y le h g = h
-too_many (Asks apdu Note next) (suc n) (suc k) (z ∷ got) later one x y le h g = too_many (next (Some z)) n k got later one x y (omega (arith, le)) h.1 g.1
+too_many (Asks place apdu AckOnly next) (suc n) (suc k) [] later one x y le h g = too_many (next None) n k [] later one x y (omega (arith, le)) h g
+too_many (Asks place apdu AckOnly next) (suc n) (suc k) (z ∷ got) later one x y le h g = too_many (next None) n k (z ∷ got) later one x y (omega (arith, le)) h g
+too_many (Asks place apdu (Is wanted) next) (suc n) (suc k) [] later one x y le h g = h
+too_many (Asks place apdu (Is wanted) next) (suc n) (suc k) (z ∷ got) later one x y le h g = too_many (next (Some z)) n k got later one x y (omega (arith, le)) h.1 g.1
+too_many (Asks place apdu Note next) (suc n) (suc k) [] later one x y le h g = h
+too_many (Asks place apdu Note next) (suc n) (suc k) (z ∷ got) later one x y le h g = too_many (next (Some z)) n k got later one x y (omega (arith, le)) h.1 g.1
 
 -- ---- so no answer of a session that went through is refused
 
@@ -72,7 +72,7 @@ module _ (a : ℕ) (plan : Plan) (op : ℕ) (got expected : List ℕ) (s : List 
     all = subst (λ z. Reaches plan (acknowledged a s) z Over) in_order through
 
     by_why : AnsweredWrong a plan op got expected r.before s ⊎ Unawaited a plan op expected r.before s → ⊥
-    by_why (inl w) = clashes plan op (acknowledged a s) (reverse r.before) (reverse r.later) got expected w.left Over w.so_far w.differs all
+    by_why (inl w) = clashes plan w.earlier (acknowledged a s) (reverse r.before) (reverse r.later) op got expected w.left Over w.so_far w.differs all
     by_why (inr w) = too_many plan (length (services a s)) (acknowledged a s) (reverse r.before) (reverse r.later) got w.left Over counted w.so_far all
 
   none_not : IsRefused a plan op got expected [] → ⊥

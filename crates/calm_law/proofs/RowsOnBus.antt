@@ -152,9 +152,9 @@ module _ (me : IndAddr) (a : ℕ) (plan : Plan) (old : Option DeviceState) (sinc
   alone n e (Opens true) f h = refl
   alone n e (Opens false) f h = absurd (cc)
   alone n e (Ready left closing) f h = refl
-  alone n e (Sends apdu expect next) f h = refl
-  alone n e (Served told apdu expect next o) f h = absurd (cc)
-  alone n e (Awaits apdu expect next v) f h = absurd (cc)
+  alone n e (Sends place apdu expect next) f h = refl
+  alone n e (Served told place apdu expect next o) f h = absurd (cc)
+  alone n e (Awaits place apdu expect next v) f h = absurd (cc)
   alone n e (Owes left closing v m) f h = refl
   alone n e (Acks true left closing v m) f h = refl
   alone n e (Acks false left closing v m) f h = absurd (cc)

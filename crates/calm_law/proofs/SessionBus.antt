@@ -215,18 +215,18 @@ module _ (me device : IndAddr) (plan : Plan) (n e now : ℕ) (small : (n < 16) �
       items_append (unsent ++ own_frame device false me.raw (Written (tpdus.Ack n)) ∷ []) (own_frame device false me.raw (numbered_data e v) ∷ [])
       ∙ ap (λ z. z ++ Heard (frame_in (numbered_data e v)) ∷ []) (acked_items none) ∙ ap (λ z. Heard (Ack n) ∷ Heard z ∷ []) (numbered_read e v small.1 is)
 
-  service_taken : (apdu : List ℕ) (expect : Expect) (next : Option (List ℕ) → Plan) (tpdu : List ℕ) → frame_in tpdu ≡ Numbered n apdu → items_of unsent ≡ [] → Goes (Asks apdu expect next) false frames kept → TakesIt (Sends apdu expect next) tpdu
+  service_taken : (place : ℕ) (apdu : List ℕ) (expect : Expect) (next : Option (List ℕ) → Plan) (tpdu : List ℕ) → frame_in tpdu ≡ Numbered n apdu → items_of unsent ≡ [] → Goes (Asks place apdu expect next) false frames kept → TakesIt (Sends place apdu expect next) tpdu
   unfolding device_took device_after device_answered after_answer
-  service_taken apdu expect next tpdu read none good = by_answer (answer_in frames kept apdu) refl where
-    it : IsServed frames (Asks apdu expect next) kept
+  service_taken place apdu expect next tpdu read none good = by_answer (answer_in frames kept apdu) refl where
+    it : IsServed frames (Asks place apdu expect next) kept
     it = good.served refl
 
-    by_answer : (o : Option (List ℕ)) → answer_in frames kept apdu ≡ o → TakesIt (Sends apdu expect next) tpdu
+    by_answer : (o : Option (List ℕ)) → answer_in frames kept apdu ≡ o → TakesIt (Sends place apdu expect next) tpdu
     by_answer None is =
         let d : DeviceState = moved acked (whole kept (effect_in apdu)) in
         let a : DeviceState = record d { last = Some (to_it tpdu) } in
         record {
-          next = Served true apdu expect next None;
+          next = Served true place apdu expect next None;
           lands = refl;
           attempts = λ k. refl;
           taken = is_taken (Idle (device_at me n e now)) (Numbered n apdu) tpdu read tt it.0;
@@ -247,7 +247,7 @@ module _ (me device : IndAddr) (plan : Plan) (n e now : ℕ) (small : (n < 16) �
         let d : DeviceState = moved acked (whole kept (effect_in apdu)) in
         let a : DeviceState = record d { connection = Answering (device_at me (next_number n) e now) (first_answer (numbered_data e v) now); unsent = (unsent ++ own_frame device false me.raw (Written (tpdus.Ack n)) ∷ []) ++ own_frame device false me.raw (numbered_data e v) ∷ []; last = Some (to_it tpdu) } in
         record {
-          next = Served true apdu expect next (Some v);
+          next = Served true place apdu expect next (Some v);
           lands = refl;
           attempts = λ k. refl;
           taken = is_taken (Idle (device_at me n e now)) (Numbered n apdu) tpdu read tt it.0;
@@ -271,9 +271,9 @@ module _ (me device : IndAddr) (plan : Plan) (n e now : ℕ) (small : (n < 16) �
   taken (Opens true) f tpdu flies read none good = connect_taken tpdu (read ∙ (let same : Connect ≡ f = cc in sym same)) good
   taken (Opens false) f tpdu flies read none good = absurd (cc)
   taken (Ready left closing) f tpdu flies read none good = absurd (cc)
-  taken (Sends apdu expect next) f tpdu flies read none good = service_taken apdu expect next tpdu (read ∙ (let same : Numbered n apdu ≡ f = cc in sym same)) none good
-  taken (Served told apdu expect next o) f tpdu flies read none good = absurd (cc)
-  taken (Awaits apdu expect next v) f tpdu flies read none good = absurd (cc)
+  taken (Sends place apdu expect next) f tpdu flies read none good = service_taken place apdu expect next tpdu (read ∙ (let same : Numbered n apdu ≡ f = cc in sym same)) none good
+  taken (Served told place apdu expect next o) f tpdu flies read none good = absurd (cc)
+  taken (Awaits place apdu expect next v) f tpdu flies read none good = absurd (cc)
   taken (Owes left closing v m) f tpdu flies read none good = absurd (cc)
   taken (Acks true left closing v m) f tpdu flies read none good = ack_taken left closing v m tpdu (read ∙ (let same : Ack m ≡ f = cc in sym same)) none good
   taken (Acks false left closing v m) f tpdu flies read none good = absurd (cc)

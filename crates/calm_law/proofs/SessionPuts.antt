@@ -104,15 +104,15 @@ module _ (me device : IndAddr) (plan : Plan) (n e now : ℕ) (frames : FrameSupp
         = rw (sent_up (client_at device n e now) apdu, asked_up (client_at device n e now) apdu) refl in
         record {
           begun = k;
-          next = Sends apdu x.expect x.next;
+          next = Sends x.place apdu x.expect x.next;
           flies = ap (λ z. Some (Numbered z apdu)) (sym num);
           is = ap (λ a. Running k a) same ∙ ap (λ z. Running k (attempt_of (Asking (client_at device n e now) (waiting_question n apdu None)) (sent_of left) [] (Some (Numbered z apdu)) closing)) num
               ∙ ap (λ z. Running k (attempt_of (Asking (client_at device n e now) (waiting_question n apdu None)) (sent_of z) [] (Some (Numbered n apdu)) closing)) x.head
-              ∙ ap (λ z. Running k (attempt_of (Asking (client_at device n e now) (waiting_question n apdu None)) (sent_of (Asks apdu x.expect x.next)) [] (Some (Numbered n apdu)) z)) on;
+              ∙ ap (λ z. Running k (attempt_of (Asking (client_at device n e now) (waiting_question n apdu None)) (sent_of (Asks x.place apdu x.expect x.next)) [] (Some (Numbered n apdu)) z)) on;
           good = record { sendable = subst IsSendable x.head good.sendable; served = λ z. subst (λ p. IsServed frames p kept) x.head (good.served on) };
           stream = refl;
           connection = refl;
-          books = λ a m l says undecided h wants. (asks_ledger W a plan m l k n e number apdu x.expect x.next left closing says num on x.head h, λ w. subst (λ z. AnswersAll (answer_in frames) z kept) x.head (wants w).1);
+          books = λ a m l says undecided h wants. (asks_ledger W a plan m l k n e number x.place apdu x.expect x.next left closing says num on x.head h, λ w. subst (λ z. AnswersAll (answer_in frames) z kept) x.head (wants w).1);
         }
 
   -- ---- a T_ACK
@@ -147,8 +147,8 @@ module _ (me device : IndAddr) (plan : Plan) (n e now : ℕ) (frames : FrameSupp
   pub put_kept : (k : ℕ) (phase : Phase) (tpdu : List ℕ) (f : TransportFrame) → (n < 16) × (e < 16) → frame_in tpdu ≡ f → Goes plan false frames kept → IsGood plan e phase frames kept → NothingFlies (attempts_at me device plan k n e now phase)
       → MayPut (attempts_at me device plan k n e now phase) now tpdu f → Put k phase f
   put_kept k (Opens fly) tpdu f small read whole good none may = absurd (cc)
-  put_kept k (Sends apdu expect next) tpdu f small read whole good none may = absurd (cc)
-  put_kept k (Served true apdu expect next o) tpdu f small read whole good none may = absurd (cc)
+  put_kept k (Sends place apdu expect next) tpdu f small read whole good none may = absurd (cc)
+  put_kept k (Served true place apdu expect next o) tpdu f small read whole good none may = absurd (cc)
   put_kept k (Acks fly left closing v m) tpdu f small read whole good none may = absurd (cc)
   put_kept k (Leaves fly left) tpdu f small read whole good none may = absurd (cc)
   put_kept k Rests tpdu Connect small read whole good none may = put_connect k whole
@@ -161,32 +161,32 @@ module _ (me device : IndAddr) (plan : Plan) (n e now : ℕ) (frames : FrameSupp
   put_kept k (Ready left closing) tpdu (Ack a) small read whole good none may = absurd (let x : [] ≡ tpdu ∷ may.0 = may.1 in cc)
   put_kept k (Ready left closing) tpdu (Nak a) small read whole good none may = absurd (let x : [] ≡ tpdu ∷ may.0 = may.1 in cc)
   put_kept k (Ready left closing) tpdu (Numbered a apdu) small read whole good none may = put_service k left closing tpdu a apdu small.0 good read may
-  put_kept k (Served false apdu expect next o) tpdu Connect small read whole good none may = absurd may
-  put_kept k (Served false apdu expect next o) tpdu Disconnect small read whole good none may = absurd (ends may) where
-    ends : MayDisconnect (attempt_of (Asking (client_at device n e now) (waiting_question n apdu (Some now))) (sent_of (Asks apdu expect next)) [] None false) now → ⊥
+  put_kept k (Served false place apdu expect next o) tpdu Connect small read whole good none may = absurd may
+  put_kept k (Served false place apdu expect next o) tpdu Disconnect small read whole good none may = absurd (ends may) where
+    ends : MayDisconnect (attempt_of (Asking (client_at device n e now) (waiting_question n apdu (Some now))) (sent_of (Asks place apdu expect next)) [] None false) now → ⊥
     ends (inl x) = let a : true ≡ false = x.acknowledged in cc
     ends (inr s) = not_silent _ (asking_not (client_at device n e now) apdu) s
-  put_kept k (Served false apdu expect next o) tpdu (Ack a) small read whole good none may = absurd (let x : [] ≡ tpdu ∷ may.0 = may.1 in cc)
-  put_kept k (Served false apdu expect next o) tpdu (Nak a) small read whole good none may = absurd (let x : [] ≡ tpdu ∷ may.0 = may.1 in cc)
-  put_kept k (Served false apdu expect next o) tpdu (Numbered a apdu2) small read whole good none may = absurd (asks may.which) where
-    asks : IsNext (attempt_of (Asking (client_at device n e now) (waiting_question n apdu (Some now))) (sent_of (Asks apdu expect next)) [] None false) apdu2 tpdu
-        ⊎ IsRepeat (attempt_of (Asking (client_at device n e now) (waiting_question n apdu (Some now))) (sent_of (Asks apdu expect next)) [] None false) now tpdu → ⊥
+  put_kept k (Served false place apdu expect next o) tpdu (Ack a) small read whole good none may = absurd (let x : [] ≡ tpdu ∷ may.0 = may.1 in cc)
+  put_kept k (Served false place apdu expect next o) tpdu (Nak a) small read whole good none may = absurd (let x : [] ≡ tpdu ∷ may.0 = may.1 in cc)
+  put_kept k (Served false place apdu expect next o) tpdu (Numbered a apdu2) small read whole good none may = absurd (asks may.which) where
+    asks : IsNext (attempt_of (Asking (client_at device n e now) (waiting_question n apdu (Some now))) (sent_of (Asks place apdu expect next)) [] None false) apdu2 tpdu
+        ⊎ IsRepeat (attempt_of (Asking (client_at device n e now) (waiting_question n apdu (Some now))) (sent_of (Asks place apdu expect next)) [] None false) now tpdu → ⊥
     asks (inl x) = let a : Asking (client_at device n e now) (waiting_question n apdu (Some now)) ≡ Up x.session = x.up in cc
     asks (inr again) = not_repeat _ tpdu (asking_not (client_at device n e now) apdu) again
-  put_kept k (Awaits apdu expect next v) tpdu Connect small read whole good none may = absurd may
-  put_kept k (Awaits apdu expect next v) tpdu Disconnect small read whole good none may = absurd (ends may) where
-    over_not : (false ≡ true) ⊎ IsDone (attempt_of (Awaiting (client_at device n e now)) (sent_of (Asks apdu expect next)) [] None false) → ⊥
+  put_kept k (Awaits place apdu expect next v) tpdu Connect small read whole good none may = absurd may
+  put_kept k (Awaits place apdu expect next v) tpdu Disconnect small read whole good none may = absurd (ends may) where
+    over_not : (false ≡ true) ⊎ IsDone (attempt_of (Awaiting (client_at device n e now)) (sent_of (Asks place apdu expect next)) [] None false) → ⊥
     over_not (inl c) = cc
     over_not (inr d) = let a : Awaiting (client_at device n e now) ≡ Up d.session = d.up in cc
 
-    ends : MayDisconnect (attempt_of (Awaiting (client_at device n e now)) (sent_of (Asks apdu expect next)) [] None false) now → ⊥
+    ends : MayDisconnect (attempt_of (Awaiting (client_at device n e now)) (sent_of (Asks place apdu expect next)) [] None false) now → ⊥
     ends (inl x) = over_not x.which
     ends (inr s) = not_silent _ awaiting_not s
-  put_kept k (Awaits apdu expect next v) tpdu (Ack a) small read whole good none may = absurd (let x : [] ≡ tpdu ∷ may.0 = may.1 in cc)
-  put_kept k (Awaits apdu expect next v) tpdu (Nak a) small read whole good none may = absurd (let x : [] ≡ tpdu ∷ may.0 = may.1 in cc)
-  put_kept k (Awaits apdu expect next v) tpdu (Numbered a apdu2) small read whole good none may = absurd (asks may.which) where
-    asks : IsNext (attempt_of (Awaiting (client_at device n e now)) (sent_of (Asks apdu expect next)) [] None false) apdu2 tpdu
-        ⊎ IsRepeat (attempt_of (Awaiting (client_at device n e now)) (sent_of (Asks apdu expect next)) [] None false) now tpdu → ⊥
+  put_kept k (Awaits place apdu expect next v) tpdu (Ack a) small read whole good none may = absurd (let x : [] ≡ tpdu ∷ may.0 = may.1 in cc)
+  put_kept k (Awaits place apdu expect next v) tpdu (Nak a) small read whole good none may = absurd (let x : [] ≡ tpdu ∷ may.0 = may.1 in cc)
+  put_kept k (Awaits place apdu expect next v) tpdu (Numbered a apdu2) small read whole good none may = absurd (asks may.which) where
+    asks : IsNext (attempt_of (Awaiting (client_at device n e now)) (sent_of (Asks place apdu expect next)) [] None false) apdu2 tpdu
+        ⊎ IsRepeat (attempt_of (Awaiting (client_at device n e now)) (sent_of (Asks place apdu expect next)) [] None false) now tpdu → ⊥
     asks (inl x) = let a : Awaiting (client_at device n e now) ≡ Up x.session = x.up in cc
     asks (inr again) = not_repeat _ tpdu awaiting_not again
   put_kept k (Owes left closing v m) tpdu Connect small read whole good none may = absurd may

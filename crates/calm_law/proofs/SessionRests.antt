@@ -101,9 +101,9 @@ module _ (me device : IndAddr) (plan : Plan) (n e now : ℕ) where
   nothing_due (Opens true) = closed_not
   nothing_due (Opens false) = idle_not 0 0
   nothing_due (Ready left closing) = idle_not n e
-  nothing_due (Sends apdu expect next) = idle_not n e
-  nothing_due (Served told apdu expect next o) = answering_not (next_number n) e o
-  nothing_due (Awaits apdu expect next v) = answering_not n e (Some v)
+  nothing_due (Sends place apdu expect next) = idle_not n e
+  nothing_due (Served told place apdu expect next o) = answering_not (next_number n) e o
+  nothing_due (Awaits place apdu expect next v) = answering_not n e (Some v)
   nothing_due (Owes left closing v m) = answering_not n m (Some v)
   nothing_due (Acks true left closing v m) = answering_not n m (Some v)
   nothing_due (Acks false left closing v m) = idle_not n e
@@ -119,8 +119,8 @@ module _ (me device : IndAddr) (plan : Plan) (n e now : ℕ) where
   ready_sends : (k : ℕ) (left : Plan) (closing : Bool) → NextIsSending (attempts_at me device plan k n e now (Ready left closing)) now
   ready_sends k left true = (refl, ToDisconnect (inl (record { acknowledged = refl; owes_nothing = refl; which = inl refl })))
   ready_sends k Over false = (refl, ToDisconnect (inl (record { acknowledged = refl; owes_nothing = refl; which = inr (record { session = client_at device n e now; up = refl; all = refl }) })))
-  ready_sends k (Asks apdu expect next) false =
-      (refl, ToAsk apdu (numbered_data n apdu) (record { owes_nothing = refl; which = inl (record { session = client_at device n e now; up = refl; goes_on = refl; expect = expect; next = next; head = refl; as_sent = sent_up apdu }) }))
+  ready_sends k (Asks place apdu expect next) false =
+      (refl, ToAsk apdu (numbered_data n apdu) (record { owes_nothing = refl; which = inl (record { session = client_at device n e now; up = refl; goes_on = refl; place = place; expect = expect; next = next; head = refl; as_sent = sent_up apdu }) }))
 
   owes_sends : (k : ℕ) (left : Plan) (closing : Bool) (v : List ℕ) (m : ℕ) → NextIsSending (attempts_at me device plan k n e now (Owes left closing v m)) now
   owes_sends k left closing v m = (refl, ToAcknowledge (Written (tpdus.Ack m)) ([], refl))
@@ -130,10 +130,10 @@ module _ (me device : IndAddr) (plan : Plan) (n e now : ℕ) where
   rests k (Opens true) f s not_sending = absurd (cc)
   rests k (Opens false) f s not_sending = absurd (cc)
   rests k (Ready left closing) f s not_sending = absurd (not_sending (ready_sends k left closing))
-  rests k (Sends apdu expect next) f s not_sending = absurd (cc)
-  rests k (Served true apdu expect next o) f s not_sending = absurd (cc)
-  rests k (Served false apdu expect next o) f s not_sending = absurd (cc)
-  rests k (Awaits apdu expect next v) f s not_sending = absurd (cc)
+  rests k (Sends place apdu expect next) f s not_sending = absurd (cc)
+  rests k (Served true place apdu expect next o) f s not_sending = absurd (cc)
+  rests k (Served false place apdu expect next o) f s not_sending = absurd (cc)
+  rests k (Awaits place apdu expect next v) f s not_sending = absurd (cc)
   rests k (Owes left closing v m) f s not_sending = absurd (not_sending (owes_sends k left closing v m))
   rests k (Acks true left closing v m) f s not_sending = absurd (cc)
   rests k (Acks false left closing v m) f s not_sending = absurd (cc)
@@ -146,10 +146,10 @@ module _ (me device : IndAddr) (plan : Plan) (n e now : ℕ) where
   flies_or_told k (Opens true) f s = absurd (cc)
   flies_or_told k (Opens false) f s = absurd (s [] refl)
   flies_or_told k (Ready left closing) f s = refl
-  flies_or_told k (Sends apdu expect next) f s = absurd (cc)
-  flies_or_told k (Served true apdu expect next o) f s = absurd (s (Heard (Ack n) ∷ answer_items e o) refl)
-  flies_or_told k (Served false apdu expect next o) f s = refl
-  flies_or_told k (Awaits apdu expect next v) f s = refl
+  flies_or_told k (Sends place apdu expect next) f s = absurd (cc)
+  flies_or_told k (Served true place apdu expect next o) f s = absurd (s (Heard (Ack n) ∷ answer_items e o) refl)
+  flies_or_told k (Served false place apdu expect next o) f s = refl
+  flies_or_told k (Awaits place apdu expect next v) f s = refl
   flies_or_told k (Owes left closing v m) f s = refl
   flies_or_told k (Acks true left closing v m) f s = absurd (cc)
   flies_or_told k (Acks false left closing v m) f s = absurd (s [] refl)

@@ -58,11 +58,11 @@ module _ (me device : IndAddr) (plan : Plan) (k now : ℕ) (frames : FrameSuppor
   told n e (Opens true) rest small good h = absurd (cc)
   told n e (Opens false) rest small good h = record { number = 0; expected = 0; next = Ready plan false; lands = refl; flew = refl; is = refl; stream = (let r : rest ≡ [] = cc in r); connection = refl; good = good; numbers = (omega arith, omega arith); books = λ a m l says h. opened_ledger W a plan m l k n e says h; wants = λ h w. (refl, h w) }
   told n e (Ready left closing) rest small good h = absurd (cc)
-  told n e (Sends apdu expect next) rest small good h = absurd (cc)
-  told n e (Served true apdu expect next o) rest small good h =
-      record { number = n; expected = e; next = Served false apdu expect next o; lands = refl; flew = refl; is = refl; stream = (let r : rest ≡ Heard (Ack n) ∷ answer_items e o = cc in r); connection = refl; good = good; numbers = small; books = λ a m l says h. served_ledger W a plan m l k n e apdu expect next o says h; wants = λ h. h }
-  told n e (Served false apdu expect next o) rest small good h = absurd (cc)
-  told n e (Awaits apdu expect next v) rest small good h = absurd (cc)
+  told n e (Sends place apdu expect next) rest small good h = absurd (cc)
+  told n e (Served true place apdu expect next o) rest small good h =
+      record { number = n; expected = e; next = Served false place apdu expect next o; lands = refl; flew = refl; is = refl; stream = (let r : rest ≡ Heard (Ack n) ∷ answer_items e o = cc in r); connection = refl; good = good; numbers = small; books = λ a m l says h. served_ledger W a plan m l k n e place apdu expect next o says h; wants = λ h. h }
+  told n e (Served false place apdu expect next o) rest small good h = absurd (cc)
+  told n e (Awaits place apdu expect next v) rest small good h = absurd (cc)
   told n e (Owes left closing v m) rest small good h = absurd (cc)
   told n e (Acks true left closing v m) rest small good h = absurd (cc)
   told n e (Acks false left closing v m) rest small good h = record { number = n; expected = e; next = Ready left closing; lands = refl; flew = refl; is = refl; stream = (let r : rest ≡ [] = cc in r); connection = refl; good = good.0; numbers = small; books = λ a t l says h. acks_ledger W a plan t l k n e left closing v m says h; wants = λ h. h }
@@ -72,14 +72,14 @@ module _ (me device : IndAddr) (plan : Plan) (k now : ℕ) (frames : FrameSuppor
   -- ---- the T_ACK
 
   -- with an answer to come, or without
-  ack_next : (n e : ℕ) (apdu : List ℕ) (expect : Expect) (next : Option (List ℕ) → Plan) (o : Option (List ℕ)) (rest : List Item) → (n < 16) × (e < 16) → Answers apdu expect next o frames kept → rest ≡ answer_items e o
-      → Got n e (Served false apdu expect next o) (Heard (Ack n)) rest
+  ack_next : (n e place : ℕ) (apdu : List ℕ) (expect : Expect) (next : Option (List ℕ) → Plan) (o : Option (List ℕ)) (rest : List Item) → (n < 16) × (e < 16) → Answers place apdu expect next o frames kept → rest ≡ answer_items e o
+      → Got n e (Served false place apdu expect next o) (Heard (Ack n)) rest
   unfolding client_took client_after
-  ack_next n e apdu expect next (Some v) rest small good r =
+  ack_next n e place apdu expect next (Some v) rest small good r =
       record {
         number = next_number n;
         expected = e;
-        next = Awaits apdu expect next v;
+        next = Awaits place apdu expect next v;
         lands = refl;
         flew = refl;
         is = rw (eq-eqb n n refl, sym good.exactly) refl;
@@ -87,10 +87,10 @@ module _ (me device : IndAddr) (plan : Plan) (k now : ℕ) (frames : FrameSuppor
         connection = refl;
         good = good;
         numbers = (next_small n, small.1);
-        books = λ a m l says h. lacks_ledger W a plan m l k n e apdu expect next v says h;
+        books = λ a m l says h. lacks_ledger W a plan m l k n e place apdu expect next v says h;
         wants = λ h. h;
       }
-  ack_next n e apdu AckOnly next None rest small good r =
+  ack_next n e place apdu AckOnly next None rest small good r =
       record {
         number = next_number n;
         expected = e;
@@ -102,11 +102,11 @@ module _ (me device : IndAddr) (plan : Plan) (k now : ℕ) (frames : FrameSuppor
         connection = refl;
         good = record { sendable = good.sendable.2 None; served = λ z. good.served tt };
         numbers = (next_small n, small.1);
-        books = λ a m l says h. next_ledger W a plan m l k n e apdu next says h;
+        books = λ a m l says h. next_ledger W a plan m l k n e place apdu next says h;
         wants = λ h w. (refl, (h w).1);
       }
-  ack_next n e apdu (Is wanted) next None rest small good r = absurd (let a : true ≡ has_answer apdu = good.sendable.1 in let b : false ≡ has_answer apdu = good.exactly in cc)
-  ack_next n e apdu Note next None rest small good r = absurd (let a : true ≡ has_answer apdu = good.sendable.1 in let b : false ≡ has_answer apdu = good.exactly in cc)
+  ack_next n e place apdu (Is wanted) next None rest small good r = absurd (let a : true ≡ has_answer apdu = good.sendable.1 in let b : false ≡ has_answer apdu = good.exactly in cc)
+  ack_next n e place apdu Note next None rest small good r = absurd (let a : true ≡ has_answer apdu = good.sendable.1 in let b : false ≡ has_answer apdu = good.exactly in cc)
 
   -- ---- the answer
 
@@ -125,48 +125,48 @@ module _ (me device : IndAddr) (plan : Plan) (k now : ℕ) (frames : FrameSuppor
   owing_as n e left goes v true = refl
   owing_as n e left goes v false = refl
 
-  answer_by : (n e : ℕ) (apdu : List ℕ) (expect : Expect) (next : Option (List ℕ) → Plan) (v : List ℕ) (rest : List Item) → (n < 16) × (e < 16) → Answers apdu expect next (Some v) frames kept → rest ≡ []
-      → expect ≢ AckOnly → sent_of (Asks apdu expect next) ≡ Asks apdu expect next → (suits (Asks apdu expect next) v ≡ true → Suits apdu expect (Some v)) → (Suits apdu expect (Some v) → suits (Asks apdu expect next) v ≡ true) → (b : Bool) → suits (Asks apdu expect next) v ≡ b
-      → Got n e (Awaits apdu expect next v) (Heard (Numbered e v)) rest
-  answer_by n e apdu expect next v rest small good r some same fits suits_it true suit =
+  answer_by : (n e place : ℕ) (apdu : List ℕ) (expect : Expect) (next : Option (List ℕ) → Plan) (v : List ℕ) (rest : List Item) → (n < 16) × (e < 16) → Answers place apdu expect next (Some v) frames kept → rest ≡ []
+      → expect ≢ AckOnly → sent_of (Asks place apdu expect next) ≡ Asks place apdu expect next → (suits (Asks place apdu expect next) v ≡ true → Suits apdu expect (Some v)) → (Suits apdu expect (Some v) → suits (Asks place apdu expect next) v ≡ true) → (b : Bool) → suits (Asks place apdu expect next) v ≡ b
+      → Got n e (Awaits place apdu expect next v) (Heard (Numbered e v)) rest
+  answer_by n e place apdu expect next v rest small good r some same fits suits_it true suit =
       record {
         number = n;
         expected = next_number e;
         next = Owes (next (Some v)) false v e;
         lands = refl;
         flew = refl;
-        is = ap (λ l. heard_so now (Running k (attempt_of (Awaiting (client_at device n e now)) l [] None false)) (Some (Numbered e v))) same ∙ answer_is n e (Asks apdu expect next) v
-            ∙ owing_as n e (Asks apdu expect next) (next (Some v)) v (suits (Asks apdu expect next) v) ∙ ap (λ b. cond b (Owing n e (next (Some v)) false v) (Owing n e (Asks apdu expect next) true v)) suit;
+        is = ap (λ l. heard_so now (Running k (attempt_of (Awaiting (client_at device n e now)) l [] None false)) (Some (Numbered e v))) same ∙ answer_is n e (Asks place apdu expect next) v
+            ∙ owing_as n e (Asks place apdu expect next) (next (Some v)) v (suits (Asks place apdu expect next) v) ∙ ap (λ b. cond b (Owing n e (next (Some v)) false v) (Owing n e (Asks place apdu expect next) true v)) suit;
         stream = r;
         connection = refl;
         good = (record { sendable = good.sendable.2 (Some v); served = λ z. good.served (fits suit) }, (small.1, refl));
         numbers = (small.0, next_small e);
-        books = λ a m l says h. wanted_ledger W a plan m l k n e apdu expect next v says (fits suit) h;
+        books = λ a m l says h. wanted_ledger W a plan m l k n e place apdu expect next v says (fits suit) h;
         wants = λ h w. (refl, (h w).1);
       }
-  answer_by n e apdu expect next v rest small good r some same fits suits_it false suit =
+  answer_by n e place apdu expect next v rest small good r some same fits suits_it false suit =
       record {
         number = n;
         expected = next_number e;
-        next = Owes (Asks apdu expect next) true v e;
+        next = Owes (Asks place apdu expect next) true v e;
         lands = refl;
         flew = refl;
-        is = ap (λ l. heard_so now (Running k (attempt_of (Awaiting (client_at device n e now)) l [] None false)) (Some (Numbered e v))) same ∙ answer_is n e (Asks apdu expect next) v
-            ∙ owing_as n e (Asks apdu expect next) (next (Some v)) v (suits (Asks apdu expect next) v) ∙ ap (λ b. cond b (Owing n e (next (Some v)) false v) (Owing n e (Asks apdu expect next) true v)) suit;
+        is = ap (λ l. heard_so now (Running k (attempt_of (Awaiting (client_at device n e now)) l [] None false)) (Some (Numbered e v))) same ∙ answer_is n e (Asks place apdu expect next) v
+            ∙ owing_as n e (Asks place apdu expect next) (next (Some v)) v (suits (Asks place apdu expect next) v) ∙ ap (λ b. cond b (Owing n e (next (Some v)) false v) (Owing n e (Asks place apdu expect next) true v)) suit;
         stream = r;
         connection = refl;
         good = (record { sendable = good.sendable; served = λ z. absurd (let a : true ≡ false = z in cc) }, (small.1, refl));
         numbers = (small.0, next_small e);
-        books = λ a m l says h. refused_ledger W a plan m l k n e apdu expect next v says some suit h;
+        books = λ a m l says h. refused_ledger W a plan m l k n e place apdu expect next v says some suit h;
         wants = λ h w. absurd (let c : true ≡ false = sym (suits_it (h w).0) ∙ suit in cc);
       }
 
-  answer_next : (n e : ℕ) (apdu : List ℕ) (expect : Expect) (next : Option (List ℕ) → Plan) (v : List ℕ) (rest : List Item) → (n < 16) × (e < 16) → Answers apdu expect next (Some v) frames kept → rest ≡ []
-      → Got n e (Awaits apdu expect next v) (Heard (Numbered e v)) rest
-  answer_next n e apdu AckOnly next v rest small good r = absurd (let a : false ≡ has_answer apdu = good.sendable.1 in let b : true ≡ has_answer apdu = good.exactly in cc)
-  answer_next n e apdu (Is wanted) next v rest small good r =
-      answer_by n e apdu (Is wanted) next v rest small good r (λ c. cc) refl (λ h. (bytes_eq-Decides v wanted).0 h) (λ h. (bytes_eq-Decides v wanted).1 h) (suits (Asks apdu (Is wanted) next) v) refl
-  answer_next n e apdu Note next v rest small good r = answer_by n e apdu Note next v rest small good r (λ c. cc) refl (λ h. h) (λ h. h) (suits (Asks apdu Note next) v) refl
+  answer_next : (n e place : ℕ) (apdu : List ℕ) (expect : Expect) (next : Option (List ℕ) → Plan) (v : List ℕ) (rest : List Item) → (n < 16) × (e < 16) → Answers place apdu expect next (Some v) frames kept → rest ≡ []
+      → Got n e (Awaits place apdu expect next v) (Heard (Numbered e v)) rest
+  answer_next n e place apdu AckOnly next v rest small good r = absurd (let a : false ≡ has_answer apdu = good.sendable.1 in let b : true ≡ has_answer apdu = good.exactly in cc)
+  answer_next n e place apdu (Is wanted) next v rest small good r =
+      answer_by n e place apdu (Is wanted) next v rest small good r (λ c. cc) refl (λ h. (bytes_eq-Decides v wanted).0 h) (λ h. (bytes_eq-Decides v wanted).1 h) (suits (Asks place apdu (Is wanted) next) v) refl
+  answer_next n e place apdu Note next v rest small good r = answer_by n e place apdu Note next v rest small good r (λ c. cc) refl (λ h. h) (λ h. h) (suits (Asks place apdu Note next) v) refl
 
   -- ---- each item
 
@@ -175,16 +175,16 @@ module _ (me device : IndAddr) (plan : Plan) (k now : ℕ) (frames : FrameSuppor
   heard_one n e (Opens true) f rest small good h = absurd (cc)
   heard_one n e (Opens false) f rest small good h = absurd (cc)
   heard_one n e (Ready left closing) f rest small good h = absurd (cc)
-  heard_one n e (Sends apdu expect next) f rest small good h = absurd (cc)
-  heard_one n e (Served true apdu expect next o) f rest small good h = absurd (cc)
-  heard_one n e (Served false apdu expect next o) f rest small good h =
+  heard_one n e (Sends place apdu expect next) f rest small good h = absurd (cc)
+  heard_one n e (Served true place apdu expect next o) f rest small good h = absurd (cc)
+  heard_one n e (Served false place apdu expect next o) f rest small good h =
       let f_is : f ≡ Ack n = cc in
       let r : rest ≡ answer_items e o = cc in
-      subst (λ z. Got n e (Served false apdu expect next o) (Heard z) rest) (sym f_is) (ack_next n e apdu expect next o rest small good r)
-  heard_one n e (Awaits apdu expect next v) f rest small good h =
+      subst (λ z. Got n e (Served false place apdu expect next o) (Heard z) rest) (sym f_is) (ack_next n e place apdu expect next o rest small good r)
+  heard_one n e (Awaits place apdu expect next v) f rest small good h =
       let f_is : f ≡ Numbered e v = cc in
       let r : rest ≡ [] = cc in
-      subst (λ z. Got n e (Awaits apdu expect next v) (Heard z) rest) (sym f_is) (answer_next n e apdu expect next v rest small good r)
+      subst (λ z. Got n e (Awaits place apdu expect next v) (Heard z) rest) (sym f_is) (answer_next n e place apdu expect next v rest small good r)
   heard_one n e (Owes left closing v m) f rest small good h = absurd (cc)
   heard_one n e (Acks true left closing v m) f rest small good h = absurd (cc)
   heard_one n e (Acks false left closing v m) f rest small good h = absurd (cc)

@@ -28,9 +28,9 @@ abbrev Room : Plan → ℕ → Phase → ℕ → Type 0
 Room plan k Rests n = k ≡ 0 → (m : ℕ) × (m + 4 ≤ n) × CostsAtMost plan m
 Room plan k (Opens fly) n = (m : ℕ) × (m + 2 ≤ n) × CostsAtMost plan m
 Room plan k (Ready left closing) n = (m : ℕ) × (m + 2 ≤ n) × (closing ≡ false → CostsAtMost left m)
-Room plan k (Sends apdu expect next) n = (m : ℕ) × (m + suc (op_left expect) ≤ n) × AfterIt apdu expect next m
-Room plan k (Served told apdu expect next o) n = (m : ℕ) × (m + suc (op_left expect) ≤ n) × AfterIt apdu expect next m
-Room plan k (Awaits apdu expect next v) n = (m : ℕ) × (m + op_left expect ≤ n) × AfterIt apdu expect next m
+Room plan k (Sends place apdu expect next) n = (m : ℕ) × (m + suc (op_left expect) ≤ n) × AfterIt apdu expect next m
+Room plan k (Served told place apdu expect next o) n = (m : ℕ) × (m + suc (op_left expect) ≤ n) × AfterIt apdu expect next m
+Room plan k (Awaits place apdu expect next v) n = (m : ℕ) × (m + op_left expect ≤ n) × AfterIt apdu expect next m
 Room plan k (Owes left closing v j) n = (m : ℕ) × (m + 4 ≤ n) × (closing ≡ false → CostsAtMost left m)
 Room plan k (Acks fly left closing v j) n = (m : ℕ) × (m + 2 ≤ n) × (closing ≡ false → CostsAtMost left m)
 Room plan k (Leaves fly left) n = k ≡ 0 → ⊥
@@ -88,20 +88,20 @@ module _ (W : Type 0) (a : ℕ) (plan : Plan) (m : Moment) (l : List Moment) (k 
     less : k ≡ 0 → Less plan k Rests (suc k) (Opens true) (cost_of a plan m l (Some Connect) None None says)
     less zero r room = let x = room zero in let u = x.1 in (x.0 + 2, omega (arith, u), (x.0, omega arith, x.2))
 
-  pub asks_ledger : (j : ℕ) (apdu : List ℕ) (expect : Expect) (next : Option (List ℕ) → Plan) (left : Plan) (closing : Bool) → Says a m (Some (Numbered j apdu)) None None → j ≡ n → closing ≡ false → left ≡ Asks apdu expect next
-      → Before (Ready left closing) → Ledger W a plan k n e (Sends apdu expect next) (m ∷ l)
-  asks_ledger j apdu expect next left closing says same on head h = (
-    asks_books W a plan m l k n e j apdu expect next left closing says same on head h.0,
-    spends_more a plan m l (Some (Numbered j apdu)) None None says k k (Ready left closing) (Sends apdu expect next) less h.1,
+  pub asks_ledger : (j place : ℕ) (apdu : List ℕ) (expect : Expect) (next : Option (List ℕ) → Plan) (left : Plan) (closing : Bool) → Says a m (Some (Numbered j apdu)) None None → j ≡ n → closing ≡ false → left ≡ Asks place apdu expect next
+      → Before (Ready left closing) → Ledger W a plan k n e (Sends place apdu expect next) (m ∷ l)
+  asks_ledger j place apdu expect next left closing says same on head h = (
+    asks_books W a plan m l k n e j place apdu expect next left closing says same on head h.0,
+    spends_more a plan m l (Some (Numbered j apdu)) None None says k k (Ready left closing) (Sends place apdu expect next) less h.1,
   ) where
     by_cost : (expect : Expect) (x y : ℕ) → x + op_cost expect ≤ y → x + suc (op_left expect) ≤ y
     by_cost AckOnly x y u = u
     by_cost (Is wanted) x y u = u
     by_cost Note x y u = u
 
-    less : Less plan k (Ready left closing) k (Sends apdu expect next) (cost_of a plan m l (Some (Numbered j apdu)) None None says)
+    less : Less plan k (Ready left closing) k (Sends place apdu expect next) (cost_of a plan m l (Some (Numbered j apdu)) None None says)
     less r room =
-        let c : CostsAtMost (Asks apdu expect next) room.0 = subst (λ z. CostsAtMost z room.0) head (room.2 on) in
+        let c : CostsAtMost (Asks place apdu expect next) room.0 = subst (λ z. CostsAtMost z room.0) head (room.2 on) in
         let u = room.1 in
         (room.0, omega (arith, u), (c.0, by_cost expect c.0 room.0 c.1, c.2))
 
@@ -129,12 +129,12 @@ module _ (W : Type 0) (a : ℕ) (plan : Plan) (m : Moment) (l : List Moment) (k 
     less : Less plan k (Opens false) k (Ready plan false) (cost_of a plan m l None (Some false) None says)
     less r room = (r, omega arith, (room.0, room.1, λ z. room.2))
 
-  pub served_ledger : (apdu : List ℕ) (expect : Expect) (next : Option (List ℕ) → Plan) (o : Option (List ℕ)) → Says a m None (Some false) None → Before (Served true apdu expect next o) → Ledger W a plan k n e (Served false apdu expect next o) (m ∷ l)
-  served_ledger apdu expect next o says h = (
-    served_books W a plan m l k n e apdu expect next o says h.0,
-    spends_more a plan m l None (Some false) None says k k (Served true apdu expect next o) (Served false apdu expect next o) less h.1,
+  pub served_ledger : (place : ℕ) (apdu : List ℕ) (expect : Expect) (next : Option (List ℕ) → Plan) (o : Option (List ℕ)) → Says a m None (Some false) None → Before (Served true place apdu expect next o) → Ledger W a plan k n e (Served false place apdu expect next o) (m ∷ l)
+  served_ledger place apdu expect next o says h = (
+    served_books W a plan m l k n e place apdu expect next o says h.0,
+    spends_more a plan m l None (Some false) None says k k (Served true place apdu expect next o) (Served false place apdu expect next o) less h.1,
   ) where
-    less : Less plan k (Served true apdu expect next o) k (Served false apdu expect next o) (cost_of a plan m l None (Some false) None says)
+    less : Less plan k (Served true place apdu expect next o) k (Served false place apdu expect next o) (cost_of a plan m l None (Some false) None says)
     less r room = (r, omega arith, room)
 
   pub acks_ledger : (left : Plan) (closing : Bool) (v : List ℕ) (j : ℕ) → Says a m None (Some false) None → Before (Acks false left closing v j) → Ledger W a plan k n e (Ready left closing) (m ∷ l)
@@ -149,20 +149,20 @@ module _ (W : Type 0) (a : ℕ) (plan : Plan) (m : Moment) (l : List Moment) (k 
 
   -- ---- frames of the device
 
-  pub lacks_ledger : (apdu : List ℕ) (expect : Expect) (next : Option (List ℕ) → Plan) (v : List ℕ) → Says a m None None (Some (Ack n)) → Before (Served false apdu expect next (Some v)) → Ledger W a plan k (next_number n) e (Awaits apdu expect next v) (m ∷ l)
-  lacks_ledger apdu expect next v says h = (
-    lacks_books W a plan m l k n e apdu expect next v says h.0,
-    spends_more a plan m l None None (Some (Ack n)) says k k (Served false apdu expect next (Some v)) (Awaits apdu expect next v) less h.1,
+  pub lacks_ledger : (place : ℕ) (apdu : List ℕ) (expect : Expect) (next : Option (List ℕ) → Plan) (v : List ℕ) → Says a m None None (Some (Ack n)) → Before (Served false place apdu expect next (Some v)) → Ledger W a plan k (next_number n) e (Awaits place apdu expect next v) (m ∷ l)
+  lacks_ledger place apdu expect next v says h = (
+    lacks_books W a plan m l k n e place apdu expect next v says h.0,
+    spends_more a plan m l None None (Some (Ack n)) says k k (Served false place apdu expect next (Some v)) (Awaits place apdu expect next v) less h.1,
   ) where
-    less : Less plan k (Served false apdu expect next (Some v)) k (Awaits apdu expect next v) (cost_of a plan m l None None (Some (Ack n)) says)
+    less : Less plan k (Served false place apdu expect next (Some v)) k (Awaits place apdu expect next v) (cost_of a plan m l None None (Some (Ack n)) says)
     less r room = let u = room.1 in (room.0 + op_left expect, omega (arith, u), (room.0, omega arith, room.2))
 
-  pub next_ledger : (apdu : List ℕ) (next : Option (List ℕ) → Plan) → Says a m None None (Some (Ack n)) → Before (Served false apdu AckOnly next None) → Ledger W a plan k (next_number n) e (Ready (next None) false) (m ∷ l)
-  next_ledger apdu next says h = (
-    next_books W a plan m l k n e apdu next says h.0,
-    spends_more a plan m l None None (Some (Ack n)) says k k (Served false apdu AckOnly next None) (Ready (next None) false) less h.1,
+  pub next_ledger : (place : ℕ) (apdu : List ℕ) (next : Option (List ℕ) → Plan) → Says a m None None (Some (Ack n)) → Before (Served false place apdu AckOnly next None) → Ledger W a plan k (next_number n) e (Ready (next None) false) (m ∷ l)
+  next_ledger place apdu next says h = (
+    next_books W a plan m l k n e place apdu next says h.0,
+    spends_more a plan m l None None (Some (Ack n)) says k k (Served false place apdu AckOnly next None) (Ready (next None) false) less h.1,
   ) where
-    less : Less plan k (Served false apdu AckOnly next None) k (Ready (next None) false) (cost_of a plan m l None None (Some (Ack n)) says)
+    less : Less plan k (Served false place apdu AckOnly next None) k (Ready (next None) false) (cost_of a plan m l None None (Some (Ack n)) says)
     less r room = let u = room.1 in (room.0 + 2, omega (arith, u), (room.0, omega arith, λ z. room.2 None tt))
 
   five : (apdu : List ℕ) (expect : Expect) (v : List ℕ) (x y : ℕ) → Suits apdu expect (Some v) → x + op_left expect ≤ y → x + 5 ≤ y
@@ -170,12 +170,12 @@ module _ (W : Type 0) (a : ℕ) (plan : Plan) (m : Moment) (l : List Moment) (k 
   five apdu (Is wanted) v x y fits u = u
   five apdu Note v x y fits u = u
 
-  pub wanted_ledger : (apdu : List ℕ) (expect : Expect) (next : Option (List ℕ) → Plan) (v : List ℕ) → Says a m None None (Some (Numbered e v)) → Suits apdu expect (Some v) → Before (Awaits apdu expect next v) → Ledger W a plan k n (next_number e) (Owes (next (Some v)) false v e) (m ∷ l)
-  wanted_ledger apdu expect next v says fits h = (
-    wanted_books W a plan m l k n e apdu expect next v says fits h.0,
-    spends_more a plan m l None None (Some (Numbered e v)) says k k (Awaits apdu expect next v) (Owes (next (Some v)) false v e) less h.1,
+  pub wanted_ledger : (place : ℕ) (apdu : List ℕ) (expect : Expect) (next : Option (List ℕ) → Plan) (v : List ℕ) → Says a m None None (Some (Numbered e v)) → Suits apdu expect (Some v) → Before (Awaits place apdu expect next v) → Ledger W a plan k n (next_number e) (Owes (next (Some v)) false v e) (m ∷ l)
+  wanted_ledger place apdu expect next v says fits h = (
+    wanted_books W a plan m l k n e place apdu expect next v says fits h.0,
+    spends_more a plan m l None None (Some (Numbered e v)) says k k (Awaits place apdu expect next v) (Owes (next (Some v)) false v e) less h.1,
   ) where
-    less : Less plan k (Awaits apdu expect next v) k (Owes (next (Some v)) false v e) (cost_of a plan m l None None (Some (Numbered e v)) says)
+    less : Less plan k (Awaits place apdu expect next v) k (Owes (next (Some v)) false v e) (cost_of a plan m l None None (Some (Numbered e v)) says)
     less r room = let u = five apdu expect v room.0 r fits room.1 in (room.0 + 4, omega (arith, u), (room.0, omega arith, λ z. room.2 (Some v) fits))
 
   not_ack : (expect : Expect) (x y : ℕ) → expect ≢ AckOnly → x + op_left expect ≤ y → x + 5 ≤ y
@@ -183,13 +183,13 @@ module _ (W : Type 0) (a : ℕ) (plan : Plan) (m : Moment) (l : List Moment) (k 
   not_ack (Is wanted) x y some u = u
   not_ack Note x y some u = u
 
-  pub refused_ledger : (apdu : List ℕ) (expect : Expect) (next : Option (List ℕ) → Plan) (v : List ℕ) → Says a m None None (Some (Numbered e v)) → expect ≢ AckOnly → suits (Asks apdu expect next) v ≡ false
-      → Before (Awaits apdu expect next v) → Ledger W a plan k n (next_number e) (Owes (Asks apdu expect next) true v e) (m ∷ l)
-  refused_ledger apdu expect next v says some unfit h = (
-    refused_books W a plan m l k n e apdu expect next v says some unfit h.0,
-    spends_more a plan m l None None (Some (Numbered e v)) says k k (Awaits apdu expect next v) (Owes (Asks apdu expect next) true v e) less h.1,
+  pub refused_ledger : (place : ℕ) (apdu : List ℕ) (expect : Expect) (next : Option (List ℕ) → Plan) (v : List ℕ) → Says a m None None (Some (Numbered e v)) → expect ≢ AckOnly → suits (Asks place apdu expect next) v ≡ false
+      → Before (Awaits place apdu expect next v) → Ledger W a plan k n (next_number e) (Owes (Asks place apdu expect next) true v e) (m ∷ l)
+  refused_ledger place apdu expect next v says some unfit h = (
+    refused_books W a plan m l k n e place apdu expect next v says some unfit h.0,
+    spends_more a plan m l None None (Some (Numbered e v)) says k k (Awaits place apdu expect next v) (Owes (Asks place apdu expect next) true v e) less h.1,
   ) where
-    less : Less plan k (Awaits apdu expect next v) k (Owes (Asks apdu expect next) true v e) (cost_of a plan m l None None (Some (Numbered e v)) says)
+    less : Less plan k (Awaits place apdu expect next v) k (Owes (Asks place apdu expect next) true v e) (cost_of a plan m l None None (Some (Numbered e v)) says)
     less r room = let u = not_ack expect room.0 r some room.1 in (room.0 + 4, omega (arith, u), (room.0, omega arith, λ z. (let y : true ≡ false = z in absurd (cc))))
 
 -- ---- a moment that is nothing to it, or another's confirmation

@@ -58,7 +58,7 @@ op_cost Note = 6
 -- whatever is answered, so many datagrams
 abbrev pub CostsAtMost : Plan → ℕ → Type 0
 CostsAtMost Over n = Unit {0}
-CostsAtMost (Asks apdu expect next) n = (m : ℕ) × (m + op_cost expect ≤ n) × ((o : Option (List ℕ)) → Suits apdu expect o → CostsAtMost (next o) m)
+CostsAtMost (Asks place apdu expect next) n = (m : ℕ) × (m + op_cost expect ≤ n) × ((o : Option (List ℕ)) → Suits apdu expect o → CostsAtMost (next o) m)
 
 -- ---- what a job brings
 

@@ -50,11 +50,11 @@ isnt_awaited NoConnection u = absurd (cc u)
 comes_over : (H : Sign → Type 0) (device : ℕ) (plan : Plan) (given : Sign) (st : Standing) (sent : ℕ) (l : List Moment) → H given → acknowledged device l ≡ sent → length (services device l) ≡ sent → StandsWith false st → StandsAt plan st sent (answers device l)
     → CameWith H device plan (if is_over st then Done else Failed given) l
 comes_over H device plan given (Next Over) sent l h o v s f = subst (λ (k : ℕ). Reaches plan k (reverse (answers device l)) Over) (sym o) f
-comes_over H device plan given (Next (Asks apdu expect next)) sent l h o v s f = (
+comes_over H device plan given (Next (Asks place apdu expect next)) sent l h o v s f = (
   h,
   record {
-    goes_on = λ g. same_over plan sent (answers device l) apdu expect next f (subst (λ (k : ℕ). Reaches plan k (reverse (answers device l)) Over) o g);
-    agrees = next_agrees device plan (Asks apdu expect next) sent l v f;
+    goes_on = λ g. same_over plan sent (answers device l) place apdu expect next f (subst (λ (k : ℕ). Reaches plan k (reverse (answers device l)) Over) o g);
+    agrees = next_agrees device plan (Asks place apdu expect next) sent l v f;
   },
 )
 comes_over H device plan given (AnswerOf left) sent l h o v s f = absurd (cc s.0)

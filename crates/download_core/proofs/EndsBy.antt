@@ -18,13 +18,13 @@ use Rattle.download_core.specs.declared.outcome.Outcome.TheVariants.{Failed}
 use Rattle.download_core.specs.Attempt.{Attempt, comes_to, result_or, is_over, answered}
 use Rattle.download_core.specs.Calls.{owing, attempt_heard}
 use Rattle.download_core.specs.Fits.{StandsWith}
-use Rattle.download_core.specs.InSession.{ConnFits, PlanFits, SessionFits}
+use Rattle.download_core.specs.InSession.{ConnFits, PlanFits, LastFits, SessionFits}
 use Rattle.download_core.specs.Record.{IsAsked, HasBegun, RunFits, CameTo}
 use Rattle.download_core.specs.Follows.{IsMoment}
 use Rattle.download_core.proofs.Readings.{IsSame, ends_after, goes_on, comes_to_end, isnt_confirmed, lost_early}
 use Rattle.download_core.proofs.Replies.{awaits_acked, awaits_answered, awaits_again, awaits_nak}
-use Rattle.download_core.proofs.Tally.{same_length, plan_kept, tally_of}
-use Rattle.download_core.proofs.Answered.{answered_keeps, plan_answered}
+use Rattle.download_core.proofs.Tally.{same_length, plan_kept, last_kept, tally_of}
+use Rattle.download_core.proofs.Answered.{answered_keeps, plan_answered, last_fits}
 use Rattle.download_core.proofs.Comes.{came_at_end, came_left, nothing_done}
 use Rattle.download_core.proofs.HeardIn.{StaysIn, AnswersIn, EndsIn, HeardIn}
 use Rattle.download_core.proofs.HeardConn.{conn_heard}
@@ -71,7 +71,7 @@ begun_heard : (device : IndAddr) (plan : Plan) (a : Attempt) (conn : ClientEnd) 
     → Fares device.raw plan (attempt_heard a (client_after conn m.now (client_took conn f)) (client_took conn f)) (m ∷ x)
 unfolding client_took client_after
 begun_heard device plan a (Asked to) f m x i e k w =
-    subst (RunFits device.raw plan (record a { conn = Asked to })) (sym (isnt_confirmed device None (Some f) None m x e w)) (record { asked = tt; flight = k.flight; sent = k.sent; standing = k.standing; wrong = k.wrong })
+    subst (RunFits device.raw plan (record a { conn = Asked to })) (sym (isnt_confirmed device None (Some f) None m x e w)) (record { asked = tt; flight = k.flight; sent = k.sent; last = k.last; standing = k.standing; wrong = k.wrong })
 begun_heard device plan a (Up s) f m x i e k w = absurd i
 begun_heard device plan a (Asking s q) f m x i e k w = absurd i
 begun_heard device plan a (Awaiting s) f m x i e k w = absurd i
@@ -102,11 +102,12 @@ stays_session device plan a conn m l f h r = record {
   conn = h.fits;
   sent = same_length device m l h.put ∙ f.sent;
   stands = plan_kept device plan a.wrong a.standing a.sent m l h.got h.put f.stands;
+  last = last_kept device plan a m l h.got f.last;
   right = λ t. f.right (r t);
 }
 
 stays_owing : (device : ℕ) (plan : Plan) (a : Attempt) (conn : ClientEnd) (reply : List ℕ) (m : Moment) (l : List Moment) → SessionFits device plan (record a { conn = conn }) (m ∷ l) → SessionFits device plan (owing a conn reply) (m ∷ l)
-stays_owing device plan a conn reply m l f = record { conn = f.conn; sent = f.sent; stands = f.stands; right = f.right }
+stays_owing device plan a conn reply m l f = record { conn = f.conn; sent = f.sent; stands = f.stands; last = f.last; right = f.right }
 
 answers_session : (device : ℕ) (plan : Plan) (a b : Attempt) (conn : ClientEnd) (apdu ack : List ℕ) (m : Moment) (l : List Moment) → SessionFits device plan a l → Stands a → b ≡ answered a apdu → AnswersIn device a.flight a.sent apdu m l conn → awaits conn ≡ false
     → SessionFits device plan (owing b conn ack) (m ∷ l)
@@ -117,7 +118,8 @@ answers_session device plan a b conn apdu ack m l f s e h n =
     record {
       conn = subst (λ (j : Flight). ConnFits device conn j b.sent (m ∷ l)) (sym flight) (subst (λ (j : ℕ). ConnFits device conn a.flight j (m ∷ l)) (sym sent) h.fits);
       sent = same_length device m l h.put ∙ f.sent ∙ sym sent;
-      stands = subst (λ (c : Attempt). PlanFits device plan c.wrong c.standing c.sent (m ∷ l)) (sym e) (plan_answered device plan a (awaits a.conn) apdu m l f.sent s f.stands h.got h.put);
+      stands = subst (λ (c : Attempt). PlanFits device plan c.wrong c.standing c.sent (m ∷ l)) (sym e) (plan_answered device plan a (awaits a.conn) apdu m l f.sent s f.last f.stands h.got h.put);
+      last = subst (λ (c : Attempt). LastFits device plan c (m ∷ l)) (sym e) (last_fits device plan a apdu m l f.stands f.last h.got);
       right = λ t. absurd (cc (sym t ∙ n));
     }
 

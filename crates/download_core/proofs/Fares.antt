@@ -1,5 +1,5 @@
 -- An attempt that runs, and its stretch of the record: nothing to the device, a confirmation, the loss of the channel.
-use Rattle.std.proofs.Common.{◌≡◌, ◌≢◌, ℕ, Bool, true, false, List, [], ◌∷◌, Option, Some, None, refl, sym, subst, ◌∙◌}
+use Rattle.std.proofs.Common.{◌≡◌, ◌≢◌, ℕ, Bool, true, false, List, [], ◌∷◌, Option, Some, None, refl, ap, sym, subst, ◌∙◌}
 use Rattle.knx_model.specs.declared.address.IndAddr.{IndAddr}
 use Rattle.knx_model.specs.Connection.{new_session}
 use Rattle.knx_model.specs.ClientConnection.{ClientEnd, Asked, Up, Asking, Awaiting, Ended as NoConnection, client_confirmed, after_confirmed}
@@ -12,6 +12,7 @@ use Rattle.download_core.specs.declared.flight.Flight.TheVariants.{Nothing, Fram
 use Rattle.download_core.specs.declared.outcome.Refusal.{Refusal}
 use Rattle.download_core.specs.Attempt.{Standing, Next, Attempt, Phase, Resting, Running, Closing, Leaving, Ended}
 use Rattle.download_core.specs.Calls.{landed, connected, attempt_confirmed}
+use Rattle.line_model.specs.Progress.{last_of}
 use Rattle.download_core.specs.InSession.{ConnFits, PlanFits, SessionFits}
 use Rattle.download_core.specs.Record.{IsAsked, HasBegun, RunFits, CameTo, IsFinal, IsUnfinished}
 use Rattle.download_core.specs.Follows.{IsMoment}
@@ -19,7 +20,7 @@ use Rattle.download_core.proofs.Readings.{IsSame, ends_after, goes_on, isnt_conf
 use Rattle.download_core.proofs.Sessions.{isnt_ack, asking_confirmed}
 use Rattle.download_core.proofs.Conns.{conn_flight, idle_same, idle_conn}
 use Rattle.download_core.proofs.Confirmed.{awaits_confirmed}
-use Rattle.download_core.proofs.Tally.{same_length, plan_kept}
+use Rattle.download_core.proofs.Tally.{same_length, plan_kept, last_kept}
 use Rattle.download_core.proofs.Comes.{nothing_done}
 
 -- ---- what a phase has of its stretch
@@ -40,6 +41,7 @@ session_conn device plan a conn flight m l f e c w = record {
   conn = c;
   sent = same_length device.raw m l e.put ∙ f.sent;
   stands = plan_kept device.raw plan a.wrong a.standing a.sent m l e.got e.put f.stands;
+  last = last_kept device.raw plan a m l e.got f.last;
   right = λ t. f.right (w t);
 }
 
@@ -50,6 +52,7 @@ idle_session device plan a c m l f w n =
       conn = idle_conn device a.conn a.flight a.sent c m l f.conn w n;
       sent = same_length device.raw m l e.put ∙ f.sent;
       stands = plan_kept device.raw plan a.wrong a.standing a.sent m l e.got e.put f.stands;
+      last = last_kept device.raw plan a m l e.got f.last;
       right = f.right;
     }
 
@@ -80,6 +83,7 @@ session_begins device plan a to now f = record {
   sent = sym f.sent;
   stands = subst (λ (w : Option Refusal). PlanFits device plan w a.standing a.sent []) (sym f.wrong)
       (subst (λ (st : Standing). PlanFits device plan None st a.sent []) (sym f.standing) (subst (λ (n : ℕ). PlanFits device plan None (Next plan) n []) (sym f.sent) refl));
+  last = λ _. f.last ∙ ap (λ (n : ℕ). last_of 0 plan n []) (sym f.sent);
   right = λ e. absurd (cc e);
 }
 

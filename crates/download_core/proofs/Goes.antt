@@ -162,26 +162,26 @@ up_end : (s : Session) (apdu : List ℕ) (now : ℕ) → IsNumber s.number → I
 unfolding after_send
 up_end s apdu now l a = (s.number, apdu, numbered_read s.number apdu l a)
 
-up_stands : (s : Session) (apdu : List ℕ) (expect : Expect) (next : Option (List ℕ) → Plan) (now : ℕ) → IsSendable (Asks apdu expect next) → StandsWith (awaits (after_send (Up s) apdu now)) (stands_after (Asks apdu expect next))
+up_stands : (s : Session) (place : ℕ) (apdu : List ℕ) (expect : Expect) (next : Option (List ℕ) → Plan) (now : ℕ) → IsSendable (Asks place apdu expect next) → StandsWith (awaits (after_send (Up s) apdu now)) (stands_after (Asks place apdu expect next))
 unfolding after_send
-up_stands s apdu AckOnly next now k = sym k.1
-up_stands s apdu (Is wanted) next now k = (sym k.1, tt)
-up_stands s apdu Note next now k = (sym k.1, tt)
+up_stands s place apdu AckOnly next now k = sym k.1
+up_stands s place apdu (Is wanted) next now k = (sym k.1, tt)
+up_stands s place apdu Note next now k = (sym k.1, tt)
 
-sent_stands : (apdu : List ℕ) (expect : Expect) (next : Option (List ℕ) → Plan) → sent_of (Asks apdu expect next) ≡ plan_of (stands_after (Asks apdu expect next))
-sent_stands apdu AckOnly next = refl
-sent_stands apdu (Is wanted) next = refl
-sent_stands apdu Note next = refl
+sent_stands : (place : ℕ) (apdu : List ℕ) (expect : Expect) (next : Option (List ℕ) → Plan) → sent_of (Asks place apdu expect next) ≡ plan_of (stands_after (Asks place apdu expect next))
+sent_stands place apdu AckOnly next = refl
+sent_stands place apdu (Is wanted) next = refl
+sent_stands place apdu Note next = refl
 
-stands_sendable : (apdu : List ℕ) (expect : Expect) (next : Option (List ℕ) → Plan) → IsSendable (Asks apdu expect next) → IsSendable (plan_of (stands_after (Asks apdu expect next)))
-stands_sendable apdu AckOnly next k = k.2 None
-stands_sendable apdu (Is wanted) next k = k
-stands_sendable apdu Note next k = k
+stands_sendable : (place : ℕ) (apdu : List ℕ) (expect : Expect) (next : Option (List ℕ) → Plan) → IsSendable (Asks place apdu expect next) → IsSendable (plan_of (stands_after (Asks place apdu expect next)))
+stands_sendable place apdu AckOnly next k = k.2 None
+stands_sendable place apdu (Is wanted) next k = k
+stands_sendable place apdu Note next k = k
 
-knows_asked : (a : Attempt) (x : line.Attempt) (s : Session) (apdu : List ℕ) (expect : Expect) (next : Option (List ℕ) → Plan) (now : ℕ) → a.conn ≡ Up s → plan_of a.standing ≡ Asks apdu expect next → a.wrong ≡ None → Knows a x
-    → Knows (asked a (Asks apdu expect next) apdu now) (record x { end = after_send x.end apdu now; left = sent_of x.left; flying = Some (frame.Numbered s.number apdu) })
-knows_asked a x s apdu expect next now c p w k =
-    let can : IsSendable (Asks apdu expect next) = subst IsSendable p k.sendable in
+knows_asked : (a : Attempt) (x : line.Attempt) (s : Session) (place : ℕ) (apdu : List ℕ) (expect : Expect) (next : Option (List ℕ) → Plan) (now : ℕ) → a.conn ≡ Up s → plan_of a.standing ≡ Asks place apdu expect next → a.wrong ≡ None → Knows a x
+    → Knows (asked a (Asks place apdu expect next) apdu now) (record x { end = after_send x.end apdu now; left = sent_of x.left; flying = Some (frame.Numbered s.number apdu) })
+knows_asked a x s place apdu expect next now c p w k =
+    let can : IsSendable (Asks place apdu expect next) = subst IsSendable p k.sendable in
     let fits : IsNumber s.number = (subst IsClientEnd c k.numbers).number in
     record {
       end = ap (λ (e : ClientEnd). after_send e apdu now) k.end;
@@ -189,9 +189,9 @@ knows_asked a x s apdu expect next now c p w k =
       replies = k.replies;
       flying = subst (λ (e : ClientEnd). IsFrame (after_send e apdu now) (Some (frame.Numbered s.number apdu))) (sym c) (up_frame s apdu now);
       closing = k.closing;
-      left = λ _. ap sent_of (k.left w ∙ p) ∙ sent_stands apdu expect next;
-      stands = λ _. subst (λ (e : ClientEnd). StandsWith (awaits (after_send e apdu now)) (stands_after (Asks apdu expect next))) (sym c) (up_stands s apdu expect next now can);
-      sendable = stands_sendable apdu expect next can;
+      left = λ _. ap sent_of (k.left w ∙ p) ∙ sent_stands place apdu expect next;
+      stands = λ _. subst (λ (e : ClientEnd). StandsWith (awaits (after_send e apdu now)) (stands_after (Asks place apdu expect next))) (sym c) (up_stands s place apdu expect next now can);
+      sendable = stands_sendable place apdu expect next can;
       numbers = client_numbers a.conn (Sends apdu now) k.numbers;
       repeats = subst (λ (e : ClientEnd). IsEnd (after_send e apdu now)) (sym c) (up_end s apdu now fits can.0);
     }
@@ -199,23 +199,23 @@ knows_asked a x s apdu expect next now c p w k =
 put_asked : (x : line.Attempt) (apdu g : List ℕ) (n now : ℕ) → client_sent x.end apdu ≡ Some g → put_attempt x now (frame.Numbered n apdu) ≡ record x { end = after_send x.end apdu now; left = sent_of x.left; flying = Some (frame.Numbered n apdu) }
 put_asked x apdu g n now e = ap (λ (o : Option (List ℕ)). record (sends_numbered x apdu now o) { flying = Some (frame.Numbered n apdu) }) e
 
-pub ask_goes : (device : IndAddr) (plan : Plan) (signs : Signs) (a : Attempt) (x : line.Attempt) (s : Session) (apdu : List ℕ) (expect : Expect) (next : Option (List ℕ) → Plan) (now : ℕ) (tpdu : List ℕ)
-    → a.conn ≡ Up s → plan_of a.standing ≡ Asks apdu expect next → a.wrong ≡ None → a.owed ≡ [] → Knows a x → tpdu ≡ numbered_data s.number apdu
-    → Goes device plan signs (Running (asked a (Asks apdu expect next) apdu now)) now tpdu (line.Running (suc (earlier signs)) x) (frame_in tpdu)
-ask_goes device plan signs a x s apdu expect next now tpdu c p w o k d =
-    let can : IsSendable (Asks apdu expect next) = subst IsSendable p k.sendable in
+pub ask_goes : (device : IndAddr) (plan : Plan) (signs : Signs) (a : Attempt) (x : line.Attempt) (s : Session) (place : ℕ) (apdu : List ℕ) (expect : Expect) (next : Option (List ℕ) → Plan) (now : ℕ) (tpdu : List ℕ)
+    → a.conn ≡ Up s → plan_of a.standing ≡ Asks place apdu expect next → a.wrong ≡ None → a.owed ≡ [] → Knows a x → tpdu ≡ numbered_data s.number apdu
+    → Goes device plan signs (Running (asked a (Asks place apdu expect next) apdu now)) now tpdu (line.Running (suc (earlier signs)) x) (frame_in tpdu)
+ask_goes device plan signs a x s place apdu expect next now tpdu c p w o k d =
+    let can : IsSendable (Asks place apdu expect next) = subst IsSendable p k.sendable in
     let fits : IsNumber s.number = (subst IsClientEnd c k.numbers).number in
     let same : client_sent x.end apdu ≡ Some (numbered_data s.number apdu) = ap (λ (e : ClientEnd). client_sent e apdu) (k.end ∙ c) ∙ up_sent s apdu in
-    subst (λ (u : List ℕ). Goes device plan signs (Running (asked a (Asks apdu expect next) apdu now)) now u (line.Running (suc (earlier signs)) x) (frame_in u)) (sym d)
-    (subst (Goes device plan signs (Running (asked a (Asks apdu expect next) apdu now)) now (numbered_data s.number apdu) (line.Running (suc (earlier signs)) x)) (sym (numbered_read s.number apdu fits can.0))
+    subst (λ (u : List ℕ). Goes device plan signs (Running (asked a (Asks place apdu expect next) apdu now)) now u (line.Running (suc (earlier signs)) x) (frame_in u)) (sym d)
+    (subst (Goes device plan signs (Running (asked a (Asks place apdu expect next) apdu now)) now (numbered_data s.number apdu) (line.Running (suc (earlier signs)) x)) (sym (numbered_read s.number apdu fits can.0))
     (record {
       may = record {
         owes_nothing = k.owed ∙ ap (map one_octet) o;
-        which = inl (record { session = s; up = k.end ∙ c; goes_on = k.closing ∙ ap is_some w; expect = expect; next = next; head = k.left w ∙ p; as_sent = same });
+        which = inl (record { session = s; up = k.end ∙ c; goes_on = k.closing ∙ ap is_some w; place = place; expect = expect; next = next; head = k.left w ∙ p; as_sent = same });
       };
       fits = (
         put_attempt x now (frame.Numbered s.number apdu),
         refl,
-        subst (Knows (asked a (Asks apdu expect next) apdu now)) (sym (put_asked x apdu (numbered_data s.number apdu) s.number now same)) (knows_asked a x s apdu expect next now c p w k),
+        subst (Knows (asked a (Asks place apdu expect next) apdu now)) (sym (put_asked x apdu (numbered_data s.number apdu) s.number now same)) (knows_asked a x s place apdu expect next now c p w k),
       );
     }))

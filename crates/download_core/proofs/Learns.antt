@@ -1,5 +1,5 @@
 -- An answer, in the downloader and in the line's view: whether it is the expected one, and what is left of the plan then.
-use Rattle.std.proofs.Common.{◌≡◌, ◌&&◌, ◌-◌, ℕ, Bool, true, false, is_some, List, [], Option, Some, None, refl, ap, sym, subst, ◌∙◌, if◌then◌else◌}
+use Rattle.std.proofs.Common.{◌≡◌, ◌&&◌, ℕ, Bool, true, false, is_some, List, [], Option, Some, None, refl, ap, sym, subst, ◌∙◌, if◌then◌else◌}
 use Rattle.std.proofs.lemmas.Bool.{and_left}
 use Rattle.knx_model.specs.declared.plan.Expect.{Expect}
 use Rattle.knx_model.specs.declared.plan.Expect.TheVariants.{AckOnly, Is, Note}
@@ -31,7 +31,7 @@ some_or : (w : Option Refusal) (r : Refusal) → true ≡ is_some (or_else w r)
 some_or None r = refl
 some_or (Some f) r = refl
 
-some_isnt_none : (w : Option Refusal) (r : Refusal) → or_else w r ≡ None → ⊥
+pub some_isnt_none : (w : Option Refusal) (r : Refusal) → or_else w r ≡ None → ⊥
 some_isnt_none None r h = absurd (cc h)
 some_isnt_none (Some f) r h = absurd (cc h)
 
@@ -44,9 +44,9 @@ learns_wrong a x got expected k = record {
   same_conn = refl;
   same_owed = refl;
   same_flight = refl;
-  closing = some_or a.wrong (record { op = a.sent - 1; got = got; expected = expected });
-  left = λ h. absurd (some_isnt_none a.wrong (record { op = a.sent - 1; got = got; expected = expected }) h);
-  stands = λ h. absurd (some_isnt_none a.wrong (record { op = a.sent - 1; got = got; expected = expected }) h);
+  closing = some_or a.wrong (record { op = a.last; got = got; expected = expected });
+  left = λ h. absurd (some_isnt_none a.wrong (record { op = a.last; got = got; expected = expected }) h);
+  stands = λ h. absurd (some_isnt_none a.wrong (record { op = a.last; got = got; expected = expected }) h);
   sendable = k.sendable;
 }
 
@@ -82,18 +82,18 @@ late false a x b got c e o f w s = record {
 }
 
 late_wrong : (a : Attempt) (x : line.Attempt) (got expected : List ℕ) → x.closing ≡ true → Knows a x → Learns a x (gone_wrong a got expected) (line.answered x got)
-late_wrong a x got expected c k = late (awaits x.end && suits x.left got) a x (gone_wrong a got expected) got c refl refl refl (sym (some_or a.wrong (record { op = a.sent - 1; got = got; expected = expected }))) k.sendable
+late_wrong a x got expected c k = late (awaits x.end && suits x.left got) a x (gone_wrong a got expected) got c refl refl refl (sym (some_or a.wrong (record { op = a.last; got = got; expected = expected }))) k.sendable
 
-late_test : (u : Bool) (a : Attempt) (x : line.Attempt) (apdu : List ℕ) (expect : Expect) (next : Option (List ℕ) → Plan) (got expected : List ℕ) → x.closing ≡ true → is_some a.wrong ≡ true → IsSendable (Asks apdu expect next) → Knows a x
+late_test : (u : Bool) (a : Attempt) (x : line.Attempt) (place : ℕ) (apdu : List ℕ) (expect : Expect) (next : Option (List ℕ) → Plan) (got expected : List ℕ) → x.closing ≡ true → is_some a.wrong ≡ true → IsSendable (Asks place apdu expect next) → Knows a x
     → Learns a x (if u then record a { standing = Next (next (Some got)) } else gone_wrong a got expected) (line.answered x got)
-late_test true a x apdu expect next got expected c w s k = late (awaits x.end && suits x.left got) a x (record a { standing = Next (next (Some got)) }) got c refl refl refl w (s.2 (Some got))
-late_test false a x apdu expect next got expected c w s k = late_wrong a x got expected c k
+late_test true a x place apdu expect next got expected c w s k = late (awaits x.end && suits x.left got) a x (record a { standing = Next (next (Some got)) }) got c refl refl refl w (s.2 (Some got))
+late_test false a x place apdu expect next got expected c w s k = late_wrong a x got expected c k
 
 late_at : (a : Attempt) (x : line.Attempt) (st : Standing) (got : List ℕ) → is_some a.wrong ≡ true → a.standing ≡ st → Knows a x → Learns a x (answered_at a st got) (line.answered x got)
 late_at a x (Next plan) got w p k = late_wrong a x got [] (k.closing ∙ w) k
 late_at a x (AnswerOf Over) got w p k = late_wrong a x got [] (k.closing ∙ w) k
-late_at a x (AnswerOf (Asks apdu expect next)) got w p k =
-    late_test (suits_expect apdu expect got) a x apdu expect next got (wanted_of expect) (k.closing ∙ w) w (subst IsSendable (ap plan_of p) k.sendable) k
+late_at a x (AnswerOf (Asks place apdu expect next)) got w p k =
+    late_test (suits_expect apdu expect got) a x place apdu expect next got (wanted_of expect) (k.closing ∙ w) w (subst IsSendable (ap plan_of p) k.sendable) k
 
 -- while none was wrong
 line_wrong : (a : Attempt) (x : line.Attempt) (b : Attempt) (got : List ℕ) (t : Bool) → t ≡ false → Learns a x b (record x { closing = true }) → Learns a x b (if t then record x { left = followed x.left got } else record x { closing = true })
@@ -104,18 +104,18 @@ line_right : (a : Attempt) (x : line.Attempt) (b : Attempt) (got : List ℕ) (t 
 line_right a x b got true e l = l
 line_right a x b got false e l = absurd (cc e)
 
-suits_same : (apdu : List ℕ) (expect : Expect) (next : Option (List ℕ) → Plan) (got : List ℕ) → suits (Asks apdu expect next) got ≡ suits_expect apdu expect got
-suits_same apdu AckOnly next got = refl
-suits_same apdu (Is wanted) next got = refl
-suits_same apdu Note next got = refl
+suits_same : (place : ℕ) (apdu : List ℕ) (expect : Expect) (next : Option (List ℕ) → Plan) (got : List ℕ) → suits (Asks place apdu expect next) got ≡ suits_expect apdu expect got
+suits_same place apdu AckOnly next got = refl
+suits_same place apdu (Is wanted) next got = refl
+suits_same place apdu Note next got = refl
 
 and_same : (b c d : Bool) → b ≡ true → c ≡ d → (b && c) ≡ d
 and_same true c d e f = f
 and_same false c d e f = absurd (cc e)
 
-in_time : (u : Bool) (a : Attempt) (x : line.Attempt) (apdu : List ℕ) (expect : Expect) (next : Option (List ℕ) → Plan) (got : List ℕ) → (awaits x.end && suits x.left got) ≡ u → a.wrong ≡ None → plan_of a.standing ≡ Asks apdu expect next → Knows a x
+in_time : (u : Bool) (a : Attempt) (x : line.Attempt) (place : ℕ) (apdu : List ℕ) (expect : Expect) (next : Option (List ℕ) → Plan) (got : List ℕ) → (awaits x.end && suits x.left got) ≡ u → a.wrong ≡ None → plan_of a.standing ≡ Asks place apdu expect next → Knows a x
     → Learns a x (if u then record a { standing = Next (next (Some got)) } else gone_wrong a got (wanted_of expect)) (line.answered x got)
-in_time true a x apdu expect next got e w p k = line_right a x (record a { standing = Next (next (Some got)) }) got (awaits x.end && suits x.left got) e (record {
+in_time true a x place apdu expect next got e w p k = line_right a x (record a { standing = Next (next (Some got)) }) got (awaits x.end && suits x.left got) e (record {
   end = refl;
   owed = refl;
   flying = refl;
@@ -127,14 +127,14 @@ in_time true a x apdu expect next got e w p k = line_right a x (record a { stand
   stands = λ _. refl;
   sendable = (subst IsSendable p k.sendable).2 (Some got);
 })
-in_time false a x apdu expect next got e w p k = line_wrong a x (gone_wrong a got (wanted_of expect)) got (awaits x.end && suits x.left got) e (learns_wrong a x got (wanted_of expect) k)
+in_time false a x place apdu expect next got e w p k = line_wrong a x (gone_wrong a got (wanted_of expect)) got (awaits x.end && suits x.left got) e (learns_wrong a x got (wanted_of expect) k)
 
 early_at : (a : Attempt) (x : line.Attempt) (st : Standing) (got : List ℕ) → a.wrong ≡ None → a.standing ≡ st → StandsWith (awaits a.conn) st → Knows a x → Learns a x (answered_at a st got) (line.answered x got)
 early_at a x (Next plan) got w p s k = line_wrong a x (gone_wrong a got []) got (awaits x.end && suits x.left got) (and_left (awaits x.end) (suits x.left got) (ap awaits k.end ∙ s)) (learns_wrong a x got [] k)
 early_at a x (AnswerOf Over) got w p s k = absurd s.1
-early_at a x (AnswerOf (Asks apdu expect next)) got w p s k =
-    in_time (suits_expect apdu expect got) a x apdu expect next got
-    (and_same (awaits x.end) (suits x.left got) (suits_expect apdu expect got) (ap awaits k.end ∙ s.0) (ap (λ (q : Plan). suits q got) (k.left w ∙ ap plan_of p) ∙ suits_same apdu expect next got))
+early_at a x (AnswerOf (Asks place apdu expect next)) got w p s k =
+    in_time (suits_expect apdu expect got) a x place apdu expect next got
+    (and_same (awaits x.end) (suits x.left got) (suits_expect apdu expect got) (ap awaits k.end ∙ s.0) (ap (λ (q : Plan). suits q got) (k.left w ∙ ap plan_of p) ∙ suits_same place apdu expect next got))
     w (ap plan_of p) k
 
 learns_at : (a : Attempt) (x : line.Attempt) (w : Option Refusal) (got : List ℕ) → a.wrong ≡ w → Knows a x → Learns a x (answered a got) (line.answered x got)

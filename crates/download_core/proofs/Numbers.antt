@@ -1,5 +1,5 @@
--- The number of the next service is that of the connection after each of its calls.
-use Rattle.std.proofs.Common.{◌≡◌, ℕ, Bool, true, false, List, ap, sym, subst, arith, if◌then◌else◌}
+-- The number of the next service is that of the connection after each of its calls. The operation before a place has the number before.
+use Rattle.std.proofs.Common.{◌≡◌, ◌+◌, ◌-◌, ℕ, Bool, true, false, List, ap, sym, subst, arith, if◌then◌else◌}
 use Rattle.std.proofs.lemmas.Grind.{common_steps}
 use Rattle.knx_model.specs.declared.connection.ClientTook.{ClientTook}
 use Rattle.knx_model.specs.declared.connection.ClientTook.TheVariants as heard
@@ -11,6 +11,9 @@ use Rattle.download_core.specs.declared.run.Run.{Run}
 use Rattle.download_core.specs.Keeps.{KeepsNumber, KeepsRun}
 use Rattle.download_core.specs.declared.did.Did.TheVariants as did
 use Rattle.download_core.specs.Steps.{sends}
+
+pub one_back : (n : ℕ) → n + 1 - 1 ≡ n
+one_back n = omega arith
 
 pub confirmed_number : (n : ℕ) (e : ClientEnd) (error : Bool) (now : ℕ) → KeepsNumber n e → KeepsNumber n (after_confirmed e error now)
 unfolding after_confirmed

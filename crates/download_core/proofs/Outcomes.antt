@@ -30,8 +30,8 @@ StaysAt plan k got = Reaches plan k (reverse got) Over → ⊥
 
 wrong_outstanding : (device : ℕ) (plan : Plan) (w : Refusal) (k : ℕ) (l : List Moment) → length (services device l) ≡ suc k → WentWrong device plan w l → StaysAt plan k (answers device l)
 wrong_outstanding device plan w k l s f h = elim (f.why) [
-  | inl a ↦ let same : w.op ≡ k = (let p : suc w.op ≡ suc k = sym a.last ∙ s in omega arith) in
-      not_less k (subst (λ (j : ℕ). j < k) same (reaches_more plan w.op k (reverse f.before) w.got (reverse f.later) a.left Over a.so_far (split_reaches plan k (answers device l) f.later f.before w.got Over f.taken h)))
+  | inl a ↦ let same : a.earlier ≡ k = (let p : suc a.earlier ≡ suc k = sym a.last ∙ s in omega arith) in
+      not_less k (subst (λ (j : ℕ). j < k) same (reaches_more plan a.earlier k (reverse f.before) w.got (reverse f.later) a.left Over a.so_far (split_reaches plan k (answers device l) f.later f.before w.got Over f.taken h)))
   | inr u ↦ let less : length (services device l) < k = reaches_more plan (length (services device l)) k (reverse f.before) w.got (reverse f.later) u.left Over u.so_far (split_reaches plan k (answers device l) f.later f.before w.got Over f.taken h) in
       (let p : length (services device l) ≡ suc k = s in omega arith)
 ]
@@ -71,8 +71,8 @@ missing_stays plan sent got x h = past_missing plan x.k (reverse got) x.left Ove
 pub missing_agrees : (device : ℕ) (plan : Plan) (sent : ℕ) (l : List Moment) → length (services device l) ≡ sent → IsMissing plan sent (answers device l) → (op : ℕ) (got expected : List ℕ) → IsRefused device plan op got expected l → ⊥
 missing_agrees device plan sent l s x op got expected r =
     let split = split_reaches plan x.k (answers device l) r.later r.before got x.left r.taken x.reaches in elim (r.why) [
-      | inl a ↦ let same : op ≡ x.k = (let p : suc op ≡ suc x.k = sym a.last ∙ s ∙ x.is in omega arith) in
-          not_less x.k (subst (λ (j : ℕ). j < x.k) same (reaches_more plan op x.k (reverse r.before) got (reverse r.later) a.left x.left a.so_far split))
+      | inl a ↦ let same : a.earlier ≡ x.k = (let p : suc a.earlier ≡ suc x.k = sym a.last ∙ s ∙ x.is in omega arith) in
+          not_less x.k (subst (λ (j : ℕ). j < x.k) same (reaches_more plan a.earlier x.k (reverse r.before) got (reverse r.later) a.left x.left a.so_far split))
       | inr u ↦ let less : length (services device l) < x.k = reaches_more plan (length (services device l)) x.k (reverse r.before) got (reverse r.later) u.left x.left u.so_far split in (let p : length (services device l) ≡ suc x.k = s ∙ x.is in omega arith)
     ]
 
@@ -81,13 +81,13 @@ missing_agrees device plan sent l s x op got expected r =
 pub next_agrees : (device : ℕ) (plan left : Plan) (sent : ℕ) (l : List Moment) → length (services device l) ≡ sent → Reaches plan sent (reverse (answers device l)) left → (op : ℕ) (got expected : List ℕ) → IsRefused device plan op got expected l → ⊥
 next_agrees device plan left sent l s f op got expected r =
     let split = split_reaches plan sent (answers device l) r.later r.before got left r.taken f in elim (r.why) [
-      | inl a ↦ past_wrong plan op (reverse r.before) got (reverse r.later) a.left left expected a.so_far a.differs (subst (λ (j : ℕ). Reaches plan j (reverse r.before ++ got ∷ reverse r.later) left) (sym s ∙ a.last) split)
+      | inl a ↦ past_wrong plan a.earlier (reverse r.before) got (reverse r.later) a.left left op expected a.so_far a.differs (subst (λ (j : ℕ). Reaches plan j (reverse r.before ++ got ∷ reverse r.later) left) (sym s ∙ a.last) split)
       | inr u ↦ let less : length (services device l) < sent = reaches_more plan (length (services device l)) sent (reverse r.before) got (reverse r.later) u.left left u.so_far split in (let p : length (services device l) ≡ sent = s in omega arith)
     ]
 
 -- operations are left, so it isn't over
-pub same_over : (plan : Plan) (sent : ℕ) (got : List (List ℕ)) (apdu : List ℕ) (expect : Expect) (next : Option (List ℕ) → Plan) → Reaches plan sent (reverse got) (Asks apdu expect next) → Reaches plan sent (reverse got) Over → ⊥
-same_over plan sent got apdu expect next f h = cc (same_place plan sent (reverse got) (Asks apdu expect next) Over f h)
+pub same_over : (plan : Plan) (sent : ℕ) (got : List (List ℕ)) (place : ℕ) (apdu : List ℕ) (expect : Expect) (next : Option (List ℕ) → Plan) → Reaches plan sent (reverse got) (Asks place apdu expect next) → Reaches plan sent (reverse got) Over → ⊥
+same_over plan sent got place apdu expect next f h = cc (same_place plan sent (reverse got) (Asks place apdu expect next) Over f h)
 
 -- ---- an attempt that fails is unfinished
 

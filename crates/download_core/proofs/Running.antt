@@ -62,14 +62,15 @@ owes_none a x o k = k.owed ∙ ap (map one_octet) o
 
 -- ---- nothing is awaited
 
-asks_next : (a : Attempt) (x : line.Attempt) (s : Session) (apdu : List ℕ) (expect : Expect) (next : Option (List ℕ) → Plan) (now : ℕ) → a.conn ≡ Up s → a.wrong ≡ None → a.standing ≡ Next (Asks apdu expect next) → a.owed ≡ [] → Knows a x
+asks_next : (a : Attempt) (x : line.Attempt) (s : Session) (place : ℕ) (apdu : List ℕ) (expect : Expect) (next : Option (List ℕ) → Plan) (now : ℕ) → a.conn ≡ Up s → a.wrong ≡ None → a.standing ≡ Next (Asks place apdu expect next) → a.owed ≡ [] → Knows a x
     → HasToSend x now
-asks_next a x s apdu expect next now c w st o k = ToAsk apdu (numbered_data s.number apdu) (record {
+asks_next a x s place apdu expect next now c w st o k = ToAsk apdu (numbered_data s.number apdu) (record {
   owes_nothing = owes_none a x o k;
   which = inl (record {
     session = s;
     up = k.end ∙ c;
     goes_on = k.closing ∙ ap is_some w;
+    place = place;
     expect = expect;
     next = next;
     head = k.left w ∙ ap plan_of st;
@@ -84,7 +85,7 @@ up_sends conn s apdu c = ap (λ (e : ClientEnd). is_send (sends (client_sent e a
 standing_steps : (a : Attempt) (x : line.Attempt) (st : Standing) (now : ℕ) → awaits_nothing a.conn ≡ true → a.wrong ≡ None → a.standing ≡ st → StandsWith false st → a.owed ≡ [] → x.flying ≡ None → Knows a x → Steps x now (standing_did a.conn st)
 standing_steps a x (Next Over) now u w st s o f k =
     let up = up_of a.conn u in Sends refl (f, ToDisconnect (inl (over_by a x k o u (inr (record { session = up.0; up = k.end ∙ up.1; all = k.left w ∙ ap plan_of st })))))
-standing_steps a x (Next (Asks apdu expect next)) now u w st s o f k = let up = up_of a.conn u in Sends (up_sends a.conn up.0 apdu up.1) (f, asks_next a x up.0 apdu expect next now up.1 w st o k)
+standing_steps a x (Next (Asks place apdu expect next)) now u w st s o f k = let up = up_of a.conn u in Sends (up_sends a.conn up.0 apdu up.1) (f, asks_next a x up.0 place apdu expect next now up.1 w st o k)
 standing_steps a x (AnswerOf left) now u w st s o f k = absurd (cc s.0)
 
 free_steps : (a : Attempt) (x : line.Attempt) (w : Option Refusal) (now : ℕ) → awaits_nothing a.conn ≡ true → a.wrong ≡ w → a.owed ≡ [] → x.flying ≡ None → Knows a x → Steps x now (free_did a w)

@@ -26,7 +26,7 @@ rest_writable (x ∷ xs) (suc k) w = rest_writable xs k w.1
 of_sendable : (operations : PieceSize → List Operation) (size : PieceSize) (k : ℕ) → ((s : PieceSize) → AllWritable (operations s)) → IsSendable (left_of operations size k)
 of_sendable operations size zero w = opened_sendable operations w
 of_sendable operations size (suc zero) w = (opened_sendable operations w).2 None
-of_sendable operations size (suc (suc k)) w = octets_sendable (drop k (operations size)) (rest_writable (operations size) k (w size))
+of_sendable operations size (suc (suc k)) w = octets_sendable (suc (suc k)) (drop k (operations size)) (rest_writable (operations size) k (w size))
 
 load_sendable : (p : Listening) (k : ℕ) → IsSendable (load_left p k)
 unfolding load_left
@@ -40,13 +40,13 @@ pub job_sendable : (plan : JobPlan) (k : ℕ) → IsSendable (job_left plan k)
 job_sendable (Load p) k = load_sendable p k
 job_sendable (Check p) k = check_sendable p k
 
-apdu_at : (apdu : List ℕ) (expect : Expect) (plan rest : Plan) → IsHead apdu expect plan rest → IsSendable plan → IsApdu apdu
-apdu_at apdu AckOnly plan rest h s = (subst IsSendable h s).0
-apdu_at apdu (Is wanted) plan rest h s = (subst IsSendable h s).0
-apdu_at apdu Note plan rest h s = (subst IsSendable h.1 s).0
+apdu_at : (place : ℕ) (apdu : List ℕ) (expect : Expect) (plan rest : Plan) → IsHead place apdu expect plan rest → IsSendable plan → IsApdu apdu
+apdu_at place apdu AckOnly plan rest h s = (subst IsSendable h s).0
+apdu_at place apdu (Is wanted) plan rest h s = (subst IsSendable h s).0
+apdu_at place apdu Note plan rest h s = (subst IsSendable h.1 s).0
 
 pub question_sendable : (plan : JobPlan) (q : Question) → IsAt (job_left plan) q → IsApdu q.apdu
-question_sendable plan q h = apdu_at q.apdu q.expect (job_left plan q.place) (job_left plan (q.place + 1)) h (job_sendable plan q.place)
+question_sendable plan q h = apdu_at q.place q.apdu q.expect (job_left plan q.place) (job_left plan (q.place + 1)) h (job_sendable plan q.place)
 
 load_begins : (p : Listening) → load_left p 0 ≢ Over
 unfolding load_left

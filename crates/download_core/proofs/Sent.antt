@@ -47,9 +47,9 @@ standing_goes : (device : IndAddr) (plan : Plan) (signs : Signs) (a : Attempt) (
 standing_goes device plan signs a x (Next Over) now tpdu u w o p k h =
     let s = up_of a.conn u in
     leaves_by device plan signs Done x now tpdu (sym (is_sent disconnect tpdu h)) (inl (over_by a x k o u (inr (record { session = s.0; up = k.end ∙ s.1; all = k.left w ∙ ap plan_of p }))))
-standing_goes device plan signs a x (Next (Asks apdu expect next)) now tpdu u w o p k h =
+standing_goes device plan signs a x (Next (Asks place apdu expect next)) now tpdu u w o p k h =
     let s = up_of a.conn u in
-    ask_goes device plan signs a x s.0 apdu expect next now tpdu s.1 (ap plan_of p) w o k (up_gives a.conn s.0 apdu tpdu s.1 h)
+    ask_goes device plan signs a x s.0 place apdu expect next now tpdu s.1 (ap plan_of p) w o k (up_gives a.conn s.0 apdu tpdu s.1 h)
 standing_goes device plan signs a x (AnswerOf left) now tpdu u w o p k h = absurd (cc h)
 
 free_goes : (device : IndAddr) (plan : Plan) (signs : Signs) (a : Attempt) (x : line.Attempt) (w : Option Refusal) (now : ℕ) (tpdu : List ℕ) → awaits_nothing a.conn ≡ true → a.wrong ≡ w → a.owed ≡ [] → Knows a x

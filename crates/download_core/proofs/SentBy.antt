@@ -12,7 +12,7 @@ use Rattle.knx_model.specs.ClientConnection.{ClientEnd, Asked, Up, Asking, Await
 use Rattle.knx_model.specs.Plans.{Plan, Asks}
 use Rattle.line_model.specs.Attempts.{awaits}
 use Rattle.line_model.specs.Moments.{Moment, time, Number, Next as NextNumber, Outstanding, number, answers, services, service_put, InSession, course}
-use Rattle.line_model.specs.Progress.{Reaches}
+use Rattle.line_model.specs.Progress.{Reaches, last_of}
 use Rattle.line_model.specs.Signs.{SilentFor}
 use Rattle.download_core.specs.declared.flight.Flight.{Flight}
 use Rattle.download_core.specs.declared.flight.Flight.TheVariants.{Frame, Reply}
@@ -23,7 +23,7 @@ use Rattle.download_core.specs.InSession.{ConnFits, UpFits, AskingFits, StandsAt
 use Rattle.download_core.specs.Record.{RunFits}
 use Rattle.download_core.specs.Follows.{IsMoment}
 use Rattle.download_core.proofs.Readings.{IsSame, same_by, ends_after, goes_on, put_after}
-use Rattle.download_core.proofs.Reaching.{reaches_acknowledged}
+use Rattle.download_core.proofs.Reaching.{reaches_acknowledged, last_asked}
 use Rattle.download_core.proofs.Sessions.{isnt_ack}
 use Rattle.download_core.proofs.Puts.{PutsNumbered, put_first, put_again, put_got, repeat_is, silent_is, four_times, unanswered}
 use Rattle.download_core.proofs.Conns.{Moves, conn_moved, conn_flight}
@@ -55,7 +55,7 @@ replied_session : (device : IndAddr) (plan : Plan) (a : Attempt) (p : TransportF
 replied_session device plan a p m l n f e w =
     let moved : ConnFits device.raw (client_stayed a.conn m.now) a.flight a.sent (m ∷ l) = conn_moved device.raw a.conn a.flight a.sent m l f.conn e (reply_moves device a.conn p m w) (λ t. w.confirmed_is) in
     let g = session_conn device plan a (client_stayed a.conn m.now) Reply m l f e (conn_flight device.raw (client_stayed a.conn m.now) a.flight Reply a.sent (m ∷ l) n moved) (λ t. sym (stayed_awaits a.conn m.now) ∙ t) in
-    record { conn = g.conn; sent = g.sent; stands = g.stands; right = g.right }
+    record { conn = g.conn; sent = g.sent; stands = g.stands; last = g.last; right = g.right }
 
 pub acks : (device : IndAddr) (plan : Plan) (a : Attempt) (k : ℕ) (m : Moment) (x l : List Moment) → (a.flight ≡ Frame → ⊥) → course device.raw x ≡ InSession l → SessionFits device.raw plan a l → PutsIt device (frame.Ack k) m
     → RunFits device.raw plan (replied a m.now) (course device.raw (m ∷ x))
@@ -80,29 +80,36 @@ asked_services : (device : IndAddr) (n : ℕ) (apdu : List ℕ) (sent : ℕ) (m 
 asked_services device n apdu sent m l o s w =
     ap (λ (x : List (List ℕ)). length x) (put_after device (Some (frame.Numbered n apdu)) None None m l w ∙ ap (λ (k : Number). service_put (Some (frame.Numbered n apdu)) k (services device.raw l)) o) ∙ ap suc s ∙ sym (add-one sent)
 
-asked_plan : (plan : Plan) (apdu : List ℕ) (expect : Expect) (next : Option (List ℕ) → Plan) (sent : ℕ) (got : List (List ℕ)) → StandsAt plan (Next (Asks apdu expect next)) sent got → StandsAt plan (stands_after (Asks apdu expect next)) (sent + 1) got
-asked_plan plan apdu AckOnly next sent got f = subst (λ (k : ℕ). Reaches plan k (reverse got) (next None)) (sym (add-one sent)) (reaches_acknowledged plan sent (reverse got) apdu next f)
-asked_plan plan apdu (Is wanted) next sent got f = (sent, add-one sent, f)
-asked_plan plan apdu Note next sent got f = (sent, add-one sent, f)
+asked_plan : (plan : Plan) (place : ℕ) (apdu : List ℕ) (expect : Expect) (next : Option (List ℕ) → Plan) (sent : ℕ) (got : List (List ℕ)) → StandsAt plan (Next (Asks place apdu expect next)) sent got → StandsAt plan (stands_after (Asks place apdu expect next)) (sent + 1) got
+asked_plan plan place apdu AckOnly next sent got f = subst (λ (k : ℕ). Reaches plan k (reverse got) (next None)) (sym (add-one sent)) (reaches_acknowledged plan sent (reverse got) place apdu next f)
+asked_plan plan place apdu (Is wanted) next sent got f = (sent, add-one sent, f)
+asked_plan plan place apdu Note next sent got f = (sent, add-one sent, f)
 
-asked_session : (device : IndAddr) (plan : Plan) (a : Attempt) (s : Session) (apdu : List ℕ) (expect : Expect) (next : Option (List ℕ) → Plan) (m : Moment) (l : List Moment) → a.conn ≡ Up s → a.wrong ≡ None → a.standing ≡ Next (Asks apdu expect next)
-    → SessionFits device.raw plan a l → IsNumber s.number → IsApdu apdu → PutsNumbered device s.number apdu m → SessionFits device.raw plan (asked a (Asks apdu expect next) apdu m.now) (m ∷ l)
-asked_session device plan a s apdu expect next m l c v st f n i w =
+asked_last : (device : IndAddr) (plan : Plan) (place : ℕ) (apdu : List ℕ) (expect : Expect) (next : Option (List ℕ) → Plan) (sent : ℕ) (m : Moment) (l : List Moment) → answers device.raw (m ∷ l) ≡ answers device.raw l
+    → StandsAt plan (Next (Asks place apdu expect next)) sent (answers device.raw l) → last_of 0 plan (sent + 1) (reverse (answers device.raw (m ∷ l))) ≡ place
+asked_last device plan place apdu expect next sent m l e f =
+    subst (λ (x : List (List ℕ)). last_of 0 plan (sent + 1) (reverse x) ≡ place) (sym e)
+    (subst (λ (k : ℕ). last_of 0 plan k (reverse (answers device.raw l)) ≡ place) (sym (add-one sent)) (last_asked 0 plan sent (reverse (answers device.raw l)) place apdu expect next f))
+
+asked_session : (device : IndAddr) (plan : Plan) (a : Attempt) (s : Session) (place : ℕ) (apdu : List ℕ) (expect : Expect) (next : Option (List ℕ) → Plan) (m : Moment) (l : List Moment) → a.conn ≡ Up s → a.wrong ≡ None → a.standing ≡ Next (Asks place apdu expect next)
+    → SessionFits device.raw plan a l → IsNumber s.number → IsApdu apdu → PutsNumbered device s.number apdu m → SessionFits device.raw plan (asked a (Asks place apdu expect next) apdu m.now) (m ∷ l)
+asked_session device plan a s place apdu expect next m l c v st f n i w =
     let up : UpFits device.raw s a.sent l = subst (λ (e : ClientEnd). ConnFits device.raw e a.flight a.sent l) c f.conn in
-    let stood : StandsAt plan (Next (Asks apdu expect next)) a.sent (answers device.raw l) =
+    let stood : StandsAt plan (Next (Asks place apdu expect next)) a.sent (answers device.raw l) =
     subst (λ (k : Standing). StandsAt plan k a.sent (answers device.raw l)) st (subst (λ (o : Option Refusal). PlanFits device.raw plan o a.standing a.sent l) v f.stands) in
     record {
       conn = subst (λ (e : ClientEnd). ConnFits device.raw (after_send e apdu m.now) Frame (a.sent + 1) (m ∷ l)) (sym c) (asked_conn device s apdu a.sent m l up n i w);
       sent = asked_services device s.number apdu a.sent m l up.own f.sent w;
-      stands = subst (λ (o : Option Refusal). PlanFits device.raw plan o (stands_after (Asks apdu expect next)) (a.sent + 1) (m ∷ l)) (sym v)
-          (subst (StandsAt plan (stands_after (Asks apdu expect next)) (a.sent + 1)) (sym (put_got device s.number apdu m l w)) (asked_plan plan apdu expect next a.sent (answers device.raw l) stood));
+      stands = subst (λ (o : Option Refusal). PlanFits device.raw plan o (stands_after (Asks place apdu expect next)) (a.sent + 1) (m ∷ l)) (sym v)
+          (subst (StandsAt plan (stands_after (Asks place apdu expect next)) (a.sent + 1)) (sym (put_got device s.number apdu m l w)) (asked_plan plan place apdu expect next a.sent (answers device.raw l) stood));
+      last = λ _. sym (asked_last device plan place apdu expect next a.sent m l (put_got device s.number apdu m l w) stood);
       right = λ t. v;
     }
 
-pub asks : (device : IndAddr) (plan : Plan) (a : Attempt) (s : Session) (apdu : List ℕ) (expect : Expect) (next : Option (List ℕ) → Plan) (m : Moment) (x l : List Moment) → course device.raw x ≡ InSession l → a.conn ≡ Up s → a.wrong ≡ None
-    → a.standing ≡ Next (Asks apdu expect next) → SessionFits device.raw plan a l → IsNumber s.number → IsApdu apdu → PutsNumbered device s.number apdu m → RunFits device.raw plan (asked a (Asks apdu expect next) apdu m.now) (course device.raw (m ∷ x))
-asks device plan a s apdu expect next m x l e c v st f n i w =
-    subst (RunFits device.raw plan (asked a (Asks apdu expect next) apdu m.now)) (sym (goes_on device.raw m x l e (ends_after device (Some (frame.Numbered s.number apdu)) None None m l w))) (asked_session device plan a s apdu expect next m l c v st f n i w)
+pub asks : (device : IndAddr) (plan : Plan) (a : Attempt) (s : Session) (place : ℕ) (apdu : List ℕ) (expect : Expect) (next : Option (List ℕ) → Plan) (m : Moment) (x l : List Moment) → course device.raw x ≡ InSession l → a.conn ≡ Up s → a.wrong ≡ None
+    → a.standing ≡ Next (Asks place apdu expect next) → SessionFits device.raw plan a l → IsNumber s.number → IsApdu apdu → PutsNumbered device s.number apdu m → RunFits device.raw plan (asked a (Asks place apdu expect next) apdu m.now) (course device.raw (m ∷ x))
+asks device plan a s place apdu expect next m x l e c v st f n i w =
+    subst (RunFits device.raw plan (asked a (Asks place apdu expect next) apdu m.now)) (sym (goes_on device.raw m x l e (ends_after device (Some (frame.Numbered s.number apdu)) None None m l w))) (asked_session device plan a s place apdu expect next m l c v st f n i w)
 
 -- ---- an operation again
 

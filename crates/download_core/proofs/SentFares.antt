@@ -97,8 +97,8 @@ leaves_silent device plan a ms m x l h s k =
 
 -- ---- an operation
 
-apdu_of : (apdu : List ℕ) (expect : Expect) (next : Option (List ℕ) → Plan) (st : Standing) → st ≡ Next (Asks apdu expect next) → IsSendable (plan_of st) → IsApdu apdu
-apdu_of apdu expect next st e s = (subst (λ (k : Standing). IsSendable (plan_of k)) e s).0
+apdu_of : (place : ℕ) (apdu : List ℕ) (expect : Expect) (next : Option (List ℕ) → Plan) (st : Standing) → st ≡ Next (Asks place apdu expect next) → IsSendable (plan_of st) → IsApdu apdu
+apdu_of place apdu expect next st e s = (subst (λ (k : Standing). IsSendable (plan_of k)) e s).0
 
 -- the moment that puts it, and what is known
 pub record Sends (device : IndAddr) (plan : Plan) (a : Attempt) (tpdu : List ℕ) (m : Moment) (x l : List Moment) : Type 0 where
@@ -113,12 +113,12 @@ pub record Sends (device : IndAddr) (plan : Plan) (a : Attempt) (tpdu : List ℕ
 standing_fares : (device : IndAddr) (plan : Plan) (a : Attempt) (st : Standing) (tpdu : List ℕ) (m : Moment) (x l : List Moment) → awaits_nothing a.conn ≡ true → a.wrong ≡ None → a.standing ≡ st → standing_did a.conn st ≡ did.Send tpdu
     → Sends device plan a tpdu m x l → Fares device.raw plan (standing_sent a st m.now) (m ∷ x)
 standing_fares device plan a (Next Over) tpdu m x l u o s h k = leaves_done device plan a m x l u o s (leaves device plan a tpdu m x l k.course_is k.fits k.knows.stands h k.puts)
-standing_fares device plan a (Next (Asks apdu expect next)) tpdu m x l u o s h k =
+standing_fares device plan a (Next (Asks place apdu expect next)) tpdu m x l u o s h k =
     let up = up_of a.conn u in
     let n : IsNumber up.0.number = (subst IsClientEnd up.1 k.knows.numbers).number in
-    let i : IsApdu apdu = apdu_of apdu expect next a.standing s k.knows.sendable in
+    let i : IsApdu apdu = apdu_of place apdu expect next a.standing s k.knows.sendable in
     let reads : frame_in tpdu ≡ frame.Numbered up.0.number apdu = ap frame_in (up_gives a.conn up.0 apdu tpdu up.1 h) ∙ numbered_read up.0.number apdu n i in
-    asks device plan a up.0 apdu expect next m x l k.course_is up.1 o s k.fits n i (subst (λ (p : TransportFrame). PutsIt device p m) reads k.puts)
+    asks device plan a up.0 place apdu expect next m x l k.course_is up.1 o s k.fits n i (subst (λ (p : TransportFrame). PutsIt device p m) reads k.puts)
 standing_fares device plan a (AnswerOf left) tpdu m x l u o s h k = absurd (cc h)
 
 free_fares : (device : IndAddr) (plan : Plan) (a : Attempt) (o : Option Refusal) (tpdu : List ℕ) (m : Moment) (x l : List Moment) → awaits_nothing a.conn ≡ true → a.wrong ≡ o → free_did a o ≡ did.Send tpdu → Sends device plan a tpdu m x l

@@ -46,7 +46,7 @@ connects : (device : IndAddr) (octets : List ℕ) (m : Moment) → did.Send conn
 connects device octets m h w = ap is_connect (w.put_is ∙ ap (λ (v : List ℕ). Some (frame_in v)) (sym (is_sent connect octets h)) ∙ ap Some connect_read)
 
 first_begun : (device : IndAddr) (plan : Plan) → HasBegun plan (first_attempt device plan)
-first_begun device plan = record { asked = tt; flight = refl; sent = refl; standing = refl; wrong = refl }
+first_begun device plan = record { asked = tt; flight = refl; sent = refl; last = refl; standing = refl; wrong = refl }
 
 abbrev state : IndAddr → Plan → Signs → Phase → DownloaderState
 state device plan signs phase = record { device = device; plan = plan; signs = signs; phase = phase }

@@ -1,15 +1,15 @@
 -- What an attempt comes to is what its session shows: done where every operation was acknowledged and answered, refused where an answer was
 -- wrong, and neither where it fails.
-use Rattle.std.proofs.Common.{◌≡◌, ◌⊎◌, inl, inr, ◌-◌, ℕ, suc, true, List, ◌∷◌, length, reverse, Option, Some, None, ap, sym, subst, ◌∙◌}
+use Rattle.std.proofs.Common.{◌≡◌, ◌⊎◌, inl, inr, ℕ, suc, true, List, ◌∷◌, length, reverse, Option, Some, None, ap, sym, subst, ◌∙◌}
 use Rattle.knx_model.specs.ClientConnection.{ClientEnd, Asked, Up, Asking, Awaiting, Ended as NoConnection}
 use Rattle.knx_model.specs.Plans.{Plan}
 use Rattle.line_model.specs.Attempts.{awaits}
 use Rattle.line_model.specs.Moments.{Moment, Next as NextNumber, Outstanding, number, acknowledged, answers, services}
-use Rattle.line_model.specs.Progress.{Reaches}
+use Rattle.line_model.specs.Progress.{Reaches, last_of}
 use Rattle.line_model.specs.Told.{AnsweredWrong, Unawaited}
 use Rattle.download_core.specs.declared.outcome.Refusal.{Refusal}
 use Rattle.download_core.specs.Attempt.{Standing, Attempt}
-use Rattle.download_core.specs.InSession.{ConnFits, StandsAt, WentWrong, PlanFits, SessionFits}
+use Rattle.download_core.specs.InSession.{ConnFits, StandsAt, WentWrong, PlanFits, LastFits, SessionFits}
 use Rattle.download_core.proofs.Readings.{IsSame}
 
 -- ---- what is counted in a session
@@ -50,12 +50,12 @@ same_length device m l e = ap (λ (x : List (List ℕ)). length x) e
 
 pub why_kept : (device : ℕ) (plan : Plan) (w : Refusal) (before : List (List ℕ)) (m : Moment) (l : List Moment) → SameServices device m l → AnsweredWrong device plan w.op w.got w.expected before l ⊎ Unawaited device plan w.op w.expected before l
     → AnsweredWrong device plan w.op w.got w.expected before (m ∷ l) ⊎ Unawaited device plan w.op w.expected before (m ∷ l)
-why_kept device plan w before m l e (inl a) = inl (record { last = same_length device m l e ∙ a.last; left = a.left; so_far = a.so_far; differs = a.differs })
+why_kept device plan w before m l e (inl a) = inl (record { earlier = a.earlier; last = same_length device m l e ∙ a.last; left = a.left; so_far = a.so_far; differs = a.differs })
 why_kept device plan w before m l e (inr u) = inr (record {
   empty = u.empty;
   left = u.left;
   so_far = subst (λ (k : ℕ). Reaches plan k (reverse before) u.left) (sym (same_length device m l e)) u.so_far;
-  last = u.last ∙ ap (λ (k : ℕ). k - 1) (sym (same_length device m l e));
+  last = u.last ∙ ap (λ (k : ℕ). last_of 0 plan k (reverse before)) (sym (same_length device m l e));
 })
 
 wrong_kept : (device : ℕ) (plan : Plan) (w : Refusal) (m : Moment) (l : List Moment) → SameAnswers device m l → SameServices device m l → WentWrong device plan w l → WentWrong device plan w (m ∷ l)
@@ -65,6 +65,9 @@ pub plan_kept : (device : ℕ) (plan : Plan) (w : Option Refusal) (standing : St
     → PlanFits device plan w standing sent (m ∷ l)
 plan_kept device plan None standing sent m l g e f = subst (StandsAt plan standing sent) (sym g) f
 plan_kept device plan (Some w) standing sent m l g e f = wrong_kept device plan w m l g e f
+
+pub last_kept : (device : ℕ) (plan : Plan) (a : Attempt) (m : Moment) (l : List Moment) → SameAnswers device m l → LastFits device plan a l → LastFits device plan a (m ∷ l)
+last_kept device plan a m l g f w = f w ∙ ap (λ (x : List (List ℕ)). last_of 0 plan a.sent (reverse x)) (sym g)
 
 counts_kept : (device : ℕ) (conn : ClientEnd) (sent : ℕ) (m : Moment) (l : List Moment) → IsSame device m l → Counts device conn sent l → Counts device conn sent (m ∷ l)
 counts_kept device (Asked to) sent m l e f = f

@@ -12,7 +12,7 @@
 --                    |          +-----------------------------------+------------------------> | Ended | -> told
 --                    |             T_Disconnect of the device, the channel is lost, no connect +-------+
 --                    +--------------------------------------------------------------------------+  fewer than three failed
-use Rattle.std.specs.Prelude.{ℕ, ◌-◌, ◌+◌, Bool, true, false, nat_le, bytes_eq, List, [], ◌∷◌, ◌++◌, length, Option, Some, None, if◌then◌else◌}
+use Rattle.std.specs.Prelude.{ℕ, ◌+◌, Bool, true, false, nat_le, bytes_eq, List, [], ◌∷◌, ◌++◌, length, Option, Some, None, if◌then◌else◌}
 use Rattle.knx_model.specs.declared.address.IndAddr.{IndAddr}
 use Rattle.knx_model.specs.declared.log.Sign.{Sign}
 use Rattle.knx_model.specs.declared.plan.Expect.{Expect}
@@ -37,6 +37,7 @@ pub record Attempt : Type 0 where
   pub conn : ClientEnd
   pub standing : Standing
   pub sent : ℕ  -- how many operations were sent
+  pub last : ℕ  -- the number of the one sent last, 0 where none was
   pub owed : List ℕ  -- the T_ACKs and T_NAKs that are owed, each of one octet, the oldest first
   pub flight : Flight
   pub wrong : Option Refusal  -- the first answer that wasn't the expected one
@@ -57,7 +58,7 @@ pub record DownloaderState : Type 0 where
 -- ---- an attempt begins
 
 abbrev pub first_attempt : IndAddr → Plan → Attempt
-first_attempt device plan = record { conn = Asked device; standing = Next plan; sent = 0; owed = []; flight = Frame; wrong = None }
+first_attempt device plan = record { conn = Asked device; standing = Next plan; sent = 0; last = 0; owed = []; flight = Frame; wrong = None }
 
 abbrev pub with_sign : Signs → Sign → Signs
 with_sign Zero s = One s
@@ -88,7 +89,7 @@ wanted_of (Is wanted) = wanted
 wanted_of Note = []
 
 abbrev pub refusal : ℕ → List ℕ → List ℕ → Refusal
-refusal sent got expected = record { op = sent - 1; got = got; expected = expected }
+refusal last got expected = record { op = last; got = got; expected = expected }
 
 -- the first wrong answer stays
 abbrev pub or_else : Option Refusal → Refusal → Option Refusal
@@ -96,13 +97,13 @@ or_else None r = Some r
 or_else (Some first) r = Some first
 
 abbrev pub gone_wrong : Attempt → List ℕ → List ℕ → Attempt
-gone_wrong a got expected = record a { wrong = or_else a.wrong (refusal a.sent got expected) }
+gone_wrong a got expected = record a { wrong = or_else a.wrong (refusal a.last got expected) }
 
 -- the awaited answer goes on in the plan where it is the expected one; every other answer is wrong
 abbrev pub answered_at : Attempt → Standing → List ℕ → Attempt
 answered_at a (Next plan) got = gone_wrong a got []
 answered_at a (AnswerOf Over) got = gone_wrong a got []
-answered_at a (AnswerOf (Asks apdu expect next)) got =
+answered_at a (AnswerOf (Asks place apdu expect next)) got =
     if suits_expect apdu expect got then record a { standing = Next (next (Some got)) } else gone_wrong a got (wanted_of expect)
 
 abbrev pub answered : Attempt → List ℕ → Attempt
@@ -112,7 +113,7 @@ answered a got = answered_at a a.standing got
 
 abbrev pub is_over : Standing → Bool
 is_over (Next Over) = true
-is_over (Next (Asks apdu expect next)) = false
+is_over (Next (Asks place apdu expect next)) = false
 is_over (AnswerOf plan) = false
 
 abbrev pub result_or : Option Refusal → Bool → Sign → Outcome

@@ -59,8 +59,8 @@ plan_of (AnswerOf plan) = plan
 
 abbrev pub HasAnswer : Plan → Type 0
 HasAnswer Over = ⊥
-HasAnswer (Asks apdu AckOnly next) = ⊥
-HasAnswer (Asks apdu expect next) = Unit {0}
+HasAnswer (Asks place apdu AckOnly next) = ⊥
+HasAnswer (Asks place apdu expect next) = Unit {0}
 
 -- the plan awaits an answer exactly where the connection does
 abbrev pub StandsWith : Bool → Standing → Type 0

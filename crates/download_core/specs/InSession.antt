@@ -8,7 +8,7 @@ use Rattle.knx_model.specs.ClientConnection.{ClientEnd, Asked, Up, Asking, Await
 use Rattle.knx_model.specs.Plans.{Plan}
 use Rattle.line_model.specs.Moments.{Moment, confirmation_in, put_to, Next as NextNumber, Outstanding, number, acknowledged, answers, services}
 use Rattle.line_model.specs.Signs.{Every, IsntAck, IsntConfirmation, SentInVain, IsAwaited, IsStill}
-use Rattle.line_model.specs.Progress.{Reaches}
+use Rattle.line_model.specs.Progress.{Reaches, last_of}
 use Rattle.line_model.specs.Attempts.{awaits}
 use Rattle.line_model.specs.Told.{AnsweredWrong, Unawaited}
 use Rattle.download_core.specs.declared.flight.Flight.{Flight}
@@ -121,10 +121,15 @@ abbrev pub PlanFits : ℕ → Plan → Option Refusal → Standing → ℕ → L
 PlanFits device plan None standing sent l = StandsAt plan standing sent (answers device l)
 PlanFits device plan (Some wrong) standing sent l = WentWrong device plan wrong l
 
+-- the number of the operation sent last
+abbrev pub LastFits : ℕ → Plan → Attempt → List Moment → Type 0
+LastFits device plan a l = a.wrong ≡ None → a.last ≡ last_of 0 plan a.sent (reverse (answers device l))
+
 -- ---- all of it: an answer is still to come only where none was wrong
 
 pub record SessionFits (device : ℕ) (plan : Plan) (a : Attempt) (l : List Moment) : Type 0 where
   pub conn : ConnFits device a.conn a.flight a.sent l
   pub sent : length (services device l) ≡ a.sent
   pub stands : PlanFits device plan a.wrong a.standing a.sent l
+  pub last : LastFits device plan a l
   pub right : awaits a.conn ≡ true → a.wrong ≡ None

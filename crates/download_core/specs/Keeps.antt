@@ -1,5 +1,5 @@
 -- What the code of a downloader keeps of an attempt stands for what the definitions say: a place in the plan for the plan that is left.
-use Rattle.std.specs.Prelude.{◌≡◌, ℕ, ◌<◌, ◌≤◌, ◌+◌, Option, Some, None}
+use Rattle.std.specs.Prelude.{◌≡◌, ℕ, ◌<◌, ◌≤◌, ◌+◌, ◌-◌, Option, Some, None}
 use Rattle.knx_model.specs.declared.address.IndAddr.{IndAddr}
 use Rattle.knx_model.specs.Connection.{next_number, IsNumber}
 use Rattle.knx_model.specs.ClientConnection.{ClientEnd, Asked, Up, Asking, Awaiting, Ended as NoConnection}
@@ -21,8 +21,13 @@ abbrev pub standing_of : (ℕ → Plan) → Position → Standing
 standing_of left (at.Next k) = Next (left k)
 standing_of left (at.AnswerOf q) = AnswerOf (left q.place)
 
+-- the number of the operation sent last, 0 where none was
+abbrev pub last_sent : Position → ℕ
+last_sent (at.Next k) = k - 1
+last_sent (at.AnswerOf q) = q.place
+
 abbrev pub attempt_of : (ℕ → Plan) → Run → Attempt
-attempt_of left r = record { conn = r.conn; standing = standing_of left r.position; sent = r.sent; owed = r.owed; flight = r.flight; wrong = r.wrong }
+attempt_of left r = record { conn = r.conn; standing = standing_of left r.position; sent = r.sent; last = last_sent r.position; owed = r.owed; flight = r.flight; wrong = r.wrong }
 
 abbrev pub phase_of : (ℕ → Plan) → Kept → Phase
 phase_of left kept.Resting = Resting
@@ -45,7 +50,7 @@ state_of d = record { device = d.device; plan = job_left d.plan 0; signs = d.sig
 
 -- the operation at the place is this one
 abbrev pub IsAt : (ℕ → Plan) → Question → Type 0
-IsAt left q = IsHead q.apdu q.expect (left q.place) (left (q.place + 1))
+IsAt left q = IsHead q.place q.apdu q.expect (left q.place) (left (q.place + 1))
 
 -- the operation that comes next from a place on; none where all are over
 abbrev pub IsNextOf : (ℕ → Plan) → ℕ → Option Question → Type 0

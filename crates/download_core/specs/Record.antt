@@ -39,6 +39,7 @@ pub record HasBegun (plan : Plan) (a : Attempt) : Type 0 where
   pub asked : IsAsked a.conn
   pub flight : a.flight ≡ Frame
   pub sent : a.sent ≡ 0
+  pub last : a.last ≡ 0
   pub standing : a.standing ≡ Next plan
   pub wrong : a.wrong ≡ None
 

@@ -36,7 +36,7 @@ sends (Some frame) = did.Send frame
 -- the next operation, or T_Disconnect where all are over
 abbrev pub standing_did : ClientEnd → Standing → Did
 standing_did conn (Next Over) = did.Send disconnect
-standing_did conn (Next (Asks apdu expect next)) = sends (client_sent conn apdu)
+standing_did conn (Next (Asks place apdu expect next)) = sends (client_sent conn apdu)
 standing_did conn (AnswerOf plan) = did.Wait
 
 -- T_Disconnect where an answer was wrong
@@ -92,15 +92,20 @@ next_did s now = phase_did s.signs s.phase now
 
 abbrev pub stands_after : Plan → Standing
 stands_after Over = Next Over
-stands_after (Asks apdu AckOnly next) = Next (next None)
-stands_after (Asks apdu expect next) = AnswerOf (Asks apdu expect next)
+stands_after (Asks place apdu AckOnly next) = Next (next None)
+stands_after (Asks place apdu expect next) = AnswerOf (Asks place apdu expect next)
+
+-- the number of the plan's next operation, 0 where all are over
+abbrev pub place_of : Plan → ℕ
+place_of Over = 0
+place_of (Asks place apdu expect next) = place
 
 abbrev pub asked : Attempt → Plan → List ℕ → ℕ → Attempt
-asked a plan apdu now = record a { conn = after_send a.conn apdu now; standing = stands_after plan; sent = a.sent + 1; flight = Frame }
+asked a plan apdu now = record a { conn = after_send a.conn apdu now; standing = stands_after plan; sent = a.sent + 1; last = place_of plan; flight = Frame }
 
 abbrev pub standing_sent : Attempt → Standing → ℕ → Phase
 standing_sent a (Next Over) now = Leaving Done
-standing_sent a (Next (Asks apdu expect next)) now = Running (asked a (Asks apdu expect next) apdu now)
+standing_sent a (Next (Asks place apdu expect next)) now = Running (asked a (Asks place apdu expect next) apdu now)
 standing_sent a (AnswerOf plan) now = Running a
 
 abbrev pub free_sent : Attempt → Option Refusal → ℕ → Phase

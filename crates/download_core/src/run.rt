@@ -7,7 +7,7 @@ ghost use Rattle.download_core.specs.JobPlans.{job_left};
 ghost use Rattle.download_core.specs.Attempt.{Running, first_attempt, is_over, comes_to, answered, or_else, refusal};
 ghost use Rattle.download_core.specs.Calls.{attempt_confirmed, phase_heard, owing};
 ghost use Rattle.download_core.specs.Going.{gone_of};
-ghost use Rattle.download_core.specs.Keeps.{phase_of, attempt_of, standing_of, KeepsRun, KeepsPhase};
+ghost use Rattle.download_core.specs.Keeps.{phase_of, attempt_of, standing_of, last_sent, KeepsRun, KeepsPhase};
 
 use crate::flight::Flight;
 use crate::job_plan::JobPlan;
@@ -98,6 +98,7 @@ impl Run {
     }
 
     /// After an answer, which goes on in the plan where it is the expected one.
+    #[tactic(auto, using(crate::proofs::Numbers::one_back))]
     fn answered(self, plan: &mut JobPlan, got: ApduOctets) -> Run
         requires { KeepsRun (job_left plan.old) self }
         ensures next { attempt_of (job_left plan.new) result ≡ answered (attempt_of (job_left plan.old) self) got }
@@ -124,10 +125,10 @@ impl Run {
 
     /// After an answer that isn't the expected one; the first stays.
     fn gone_wrong(self, got: ApduOctets, expected: ApduOctets) -> Run
-        ensures { result ≡ record self { wrong = or_else self.wrong (refusal self.sent got expected) } }
+        ensures { result ≡ record self { wrong = or_else self.wrong (refusal (last_sent self.position) got expected) } }
     {
         let refusal = Refusal {
-            op: self.sent.saturating_sub(1),
+            op: self.position.last(),
             got,
             expected,
         };

@@ -162,7 +162,7 @@ impl Run {
     }
 
     /// After an operation was put for the first time.
-    #[tactic(auto, using(crate::proofs::Numbers::asked_number))]
+    #[tactic(auto, using(crate::proofs::Numbers::asked_number, crate::proofs::Numbers::one_back))]
     fn asked(mut self, question: Question, now: u64) -> Run
         requires number { IsNumber self.number }
         requires sendable { IsApdu question.apdu }

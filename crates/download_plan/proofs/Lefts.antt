@@ -20,60 +20,61 @@ use Rattle.download_plan.proofs.Places.{load_begins}
 
 -- ---- lists
 
-head_by : (apdu : List ℕ) (expected : Option Apdu) (rest : Plan) → IsHead apdu (expect_of expected) (Asks apdu (expect_of expected) (λ _. rest)) rest
-head_by apdu None rest = refl
-head_by apdu (Some answer) rest = refl
+head_by : (place : ℕ) (apdu : List ℕ) (expected : Option Apdu) (rest : Plan) → IsHead place apdu (expect_of expected) (Asks place apdu (expect_of expected) (λ _. rest)) rest
+head_by place apdu None rest = refl
+head_by place apdu (Some answer) rest = refl
 
 same_op : (x y : Op) → Some x ≡ Some y → x ≡ y
 same_op x y e = cc
 
-listed_head : (ops : List Operation) (j : ℕ) (op : Op) → slice_get (map op_of ops) j ≡ Some op → IsHead op.apdu op.expect (listed (drop j ops)) (listed (drop (suc j) ops))
-listed_head [] zero op e = absurd (cc)
-listed_head [] (suc j) op e = absurd (cc)
-listed_head (x ∷ xs) zero op e = subst (λ (y : Op). IsHead y.apdu y.expect (listed (x ∷ xs)) (listed xs)) (same_op (op_of x) op e) (head_by (apdu_octets x.service) x.expected (listed xs))
-listed_head (x ∷ xs) (suc j) op e = listed_head xs j op e
+listed_head : (place : ℕ) (ops : List Operation) (j : ℕ) (op : Op) → slice_get (map op_of ops) j ≡ Some op → IsHead place op.apdu op.expect (listed place (drop j ops)) (listed (suc place) (drop (suc j) ops))
+listed_head place [] zero op e = absurd (cc)
+listed_head place [] (suc j) op e = absurd (cc)
+listed_head place (x ∷ xs) zero op e =
+    subst (λ (y : Op). IsHead place y.apdu y.expect (listed place (x ∷ xs)) (listed (suc place) xs)) (same_op (op_of x) op e) (head_by place (apdu_octets x.service) x.expected (listed (suc place) xs))
+listed_head place (x ∷ xs) (suc j) op e = listed_head place xs j op e
 
-expected_unnoted : (apdu : List ℕ) (expected : Option Apdu) (next : Option (List ℕ) → Plan) → ¬ IsNoted (Asks apdu (expect_of expected) next)
-expected_unnoted apdu None next h = h
-expected_unnoted apdu (Some answer) next h = h
+expected_unnoted : (place : ℕ) (apdu : List ℕ) (expected : Option Apdu) (next : Option (List ℕ) → Plan) → ¬ IsNoted (Asks place apdu (expect_of expected) next)
+expected_unnoted place apdu None next h = h
+expected_unnoted place apdu (Some answer) next h = h
 
-listed_unnoted : (ops : List Operation) → ¬ IsNoted (listed ops)
-listed_unnoted [] h = h
-listed_unnoted (x ∷ xs) h = expected_unnoted (apdu_octets x.service) x.expected (λ _. listed xs) h
+listed_unnoted : (place : ℕ) (ops : List Operation) → ¬ IsNoted (listed place ops)
+listed_unnoted place [] h = h
+listed_unnoted place (x ∷ xs) h = expected_unnoted place (apdu_octets x.service) x.expected (λ _. listed (suc place) xs) h
 
 -- ---- positions
 
-left_first : (operations : PieceSize → List Operation) (size : PieceSize) (k : ℕ) (op : Op) → k ≡ 0 → op ≡ op_of (expecting (DescriptorRead 0) (DescriptorResponse 0 (Some 0x07B0))) → IsHead op.apdu op.expect (left_of operations size k) (left_of operations size (k + 1))
+left_first : (operations : PieceSize → List Operation) (size : PieceSize) (k : ℕ) (op : Op) → k ≡ 0 → op ≡ op_of (expecting (DescriptorRead 0) (DescriptorResponse 0 (Some 0x07B0))) → IsHead k op.apdu op.expect (left_of operations size k) (left_of operations size (k + 1))
 left_first operations size k op e f =
-    subst (λ (j : ℕ). IsHead op.apdu op.expect (left_of operations size j) (left_of operations size (j + 1))) (sym e)
-    (subst (λ (y : Op). IsHead y.apdu y.expect (opened operations) (noting operations)) (sym f) refl)
+    subst (λ (j : ℕ). IsHead j op.apdu op.expect (left_of operations size j) (left_of operations size (j + 1))) (sym e)
+    (subst (λ (y : Op). IsHead 0 y.apdu y.expect (opened operations) (noting operations)) (sym f) refl)
 
-left_second : (operations : PieceSize → List Operation) (size : PieceSize) (k : ℕ) (op : Op) → k ≡ 1 → op ≡ length_noted → IsHead op.apdu op.expect (left_of operations size k) (left_of operations size (k + 1))
+left_second : (operations : PieceSize → List Operation) (size : PieceSize) (k : ℕ) (op : Op) → k ≡ 1 → op ≡ length_noted → IsHead k op.apdu op.expect (left_of operations size k) (left_of operations size (k + 1))
 left_second operations size k op e f =
-    subst (λ (j : ℕ). IsHead op.apdu op.expect (left_of operations size j) (left_of operations size (j + 1))) (sym e)
-    (subst (λ (y : Op). IsHead y.apdu y.expect (noting operations) (left_of operations size 2)) (sym f) (λ answer. listed (operations (size_by answer)), refl))
+    subst (λ (j : ℕ). IsHead j op.apdu op.expect (left_of operations size j) (left_of operations size (j + 1))) (sym e)
+    (subst (λ (y : Op). IsHead 1 y.apdu y.expect (noting operations) (left_of operations size 2)) (sym f) (λ answer. listed 2 (operations (size_by answer)), refl))
 
-left_from : (operations : PieceSize → List Operation) (size : PieceSize) (j k : ℕ) (op : Op) → k ≡ j + 2 → slice_get (map op_of (operations size)) j ≡ Some op → IsHead op.apdu op.expect (left_of operations size k) (left_of operations size (k + 1))
+left_from : (operations : PieceSize → List Operation) (size : PieceSize) (j k : ℕ) (op : Op) → k ≡ j + 2 → slice_get (map op_of (operations size)) j ≡ Some op → IsHead k op.apdu op.expect (left_of operations size k) (left_of operations size (k + 1))
 left_from operations size j k op e f =
     let one : k ≡ suc (suc j) = omega (arith, e) in
     let two : k + 1 ≡ suc (suc (suc j)) = omega (arith, e) in
-    subst (λ (i : ℕ). IsHead op.apdu op.expect (left_of operations size i) (left_of operations size (k + 1))) (sym one)
-    (subst (λ (i : ℕ). IsHead op.apdu op.expect (listed (drop j (operations size))) (left_of operations size i)) (sym two) (listed_head (operations size) j op f))
+    subst (λ (i : ℕ). IsHead i op.apdu op.expect (left_of operations size i) (left_of operations size (k + 1))) (sym one)
+    (subst (λ (i : ℕ). IsHead (suc (suc j)) op.apdu op.expect (listed (suc (suc j)) (drop j (operations size))) (left_of operations size i)) (sym two) (listed_head (suc (suc j)) (operations size) j op f))
 
 left_over : (operations : PieceSize → List Operation) (size : PieceSize) (k : ℕ) → 2 + length (operations size) ≤ k → left_of operations size k ≡ Over
 left_over operations size zero h = absurd (omega (arith, h))
 left_over operations size (suc zero) h = absurd (omega (arith, h))
-left_over operations size (suc (suc k)) h = ap listed (drop_all k (operations size) (omega (arith, h)))
+left_over operations size (suc (suc k)) h = ap (listed (suc (suc k))) (drop_all k (operations size) (omega (arith, h)))
 
 left_noted : (operations : PieceSize → List Operation) (old new : PieceSize) (k : ℕ) (got : List ℕ) → k ≡ 1 → new ≡ size_by (Some got) → left_of operations new (k + 1) ≡ followed (left_of operations old k) got
 left_noted operations old new k got e f =
-    subst (λ (j : ℕ). left_of operations new (j + 1) ≡ followed (left_of operations old j) got) (sym e) (ap (λ (size : PieceSize). listed (operations size)) f)
+    subst (λ (j : ℕ). left_of operations new (j + 1) ≡ followed (left_of operations old j) got) (sym e) (ap (λ (size : PieceSize). listed 2 (operations size)) f)
 
 -- only the second operation is noted
 left_unnoted : (operations : PieceSize → List Operation) (size : PieceSize) (k : ℕ) → IsNoted (left_of operations size k) → k ≡ 1
 left_unnoted operations size zero h = absurd h
 left_unnoted operations size (suc zero) h = refl
-left_unnoted operations size (suc (suc k)) h = absurd (listed_unnoted (drop k (operations size)) h)
+left_unnoted operations size (suc (suc k)) h = absurd (listed_unnoted (suc (suc k)) (drop k (operations size)) h)
 
 -- up to the noted operation the size doesn't matter
 left_before : (operations : PieceSize → List Operation) (old new : PieceSize) (j : ℕ) → j ≤ 1 → left_of operations new j ≡ left_of operations old j
@@ -92,19 +93,19 @@ left_is_noted operations size k e = subst (λ (j : ℕ). IsNoted (left_of operat
 
 -- ---- the load plan
 
-pub load_first : (p : Listening) (k : ℕ) (op : Op) → k ≡ 0 → op ≡ op_of (expecting (DescriptorRead 0) (DescriptorResponse 0 (Some 0x07B0))) → IsHead op.apdu op.expect (load_left p k) (load_left p (k + 1))
+pub load_first : (p : Listening) (k : ℕ) (op : Op) → k ≡ 0 → op ≡ op_of (expecting (DescriptorRead 0) (DescriptorResponse 0 (Some 0x07B0))) → IsHead k op.apdu op.expect (load_left p k) (load_left p (k + 1))
 unfolding load_left
 load_first p k op e f = left_first (load_operations p.image) p.size k op e f
 
-pub load_second : (p : Listening) (k : ℕ) (op : Op) → k ≡ 1 → op ≡ length_noted → IsHead op.apdu op.expect (load_left p k) (load_left p (k + 1))
+pub load_second : (p : Listening) (k : ℕ) (op : Op) → k ≡ 1 → op ≡ length_noted → IsHead k op.apdu op.expect (load_left p k) (load_left p (k + 1))
 unfolding load_left
 load_second p k op e f = left_second (load_operations p.image) p.size k op e f
 
-pub load_third : (p : Listening) (k : ℕ) (op : Op) → k ≡ 2 → op ≡ op_of (event_then Application Unload Unloaded) → IsHead op.apdu op.expect (load_left p k) (load_left p (k + 1))
+pub load_third : (p : Listening) (k : ℕ) (op : Op) → k ≡ 2 → op ≡ op_of (event_then Application Unload Unloaded) → IsHead k op.apdu op.expect (load_left p k) (load_left p (k + 1))
 unfolding load_left
 load_third p k op e f = left_from (load_operations p.image) p.size 0 k op (omega (arith, e)) (load_begins p.image p.size ∙ ap Some (sym f))
 
-pub load_from : (p : Listening) (k : ℕ) (op : Op) → 3 ≤ k → slice_get (map op_of (load_operations p.image p.size)) (k - 3 + 1) ≡ Some op → IsHead op.apdu op.expect (load_left p k) (load_left p (k + 1))
+pub load_from : (p : Listening) (k : ℕ) (op : Op) → 3 ≤ k → slice_get (map op_of (load_operations p.image p.size)) (k - 3 + 1) ≡ Some op → IsHead k op.apdu op.expect (load_left p k) (load_left p (k + 1))
 unfolding load_left
 load_from p k op h e = left_from (load_operations p.image) p.size (k - 3 + 1) k op (omega (arith, h)) e
 
@@ -131,15 +132,15 @@ load_ignored old new k i f unnoted j =
 
 -- ---- the check plan
 
-pub check_first : (p : Listening) (k : ℕ) (op : Op) → k ≡ 0 → op ≡ op_of (expecting (DescriptorRead 0) (DescriptorResponse 0 (Some 0x07B0))) → IsHead op.apdu op.expect (check_left p k) (check_left p (k + 1))
+pub check_first : (p : Listening) (k : ℕ) (op : Op) → k ≡ 0 → op ≡ op_of (expecting (DescriptorRead 0) (DescriptorResponse 0 (Some 0x07B0))) → IsHead k op.apdu op.expect (check_left p k) (check_left p (k + 1))
 unfolding check_left
 check_first p k op e f = left_first (check_operations p.image) p.size k op e f
 
-pub check_second : (p : Listening) (k : ℕ) (op : Op) → k ≡ 1 → op ≡ length_noted → IsHead op.apdu op.expect (check_left p k) (check_left p (k + 1))
+pub check_second : (p : Listening) (k : ℕ) (op : Op) → k ≡ 1 → op ≡ length_noted → IsHead k op.apdu op.expect (check_left p k) (check_left p (k + 1))
 unfolding check_left
 check_second p k op e f = left_second (check_operations p.image) p.size k op e f
 
-pub check_from : (p : Listening) (k : ℕ) (op : Op) → 2 ≤ k → slice_get (map op_of (check_operations p.image p.size)) (k - 2) ≡ Some op → IsHead op.apdu op.expect (check_left p k) (check_left p (k + 1))
+pub check_from : (p : Listening) (k : ℕ) (op : Op) → 2 ≤ k → slice_get (map op_of (check_operations p.image p.size)) (k - 2) ≡ Some op → IsHead k op.apdu op.expect (check_left p k) (check_left p (k + 1))
 unfolding check_left
 check_from p k op h e = left_from (check_operations p.image) p.size (k - 2) k op (omega (arith, h)) e
 

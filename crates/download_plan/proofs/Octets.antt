@@ -1,5 +1,5 @@
 -- Operations in octets: what their services do, and that what is answered in octets is what is answered.
-use Rattle.std.proofs.Common.{ℕ, ◌≡◌, ◌-◌, ◌<◌, ◌≤◌, Bool, true, false, not, ◌==◌, ◌&&◌, List, [], ◌∷◌, ◌++◌, length, length-take, take, drop, Option, Some, None, refl, sym, ◌∙◌, ap, subst, arith, if◌then◌else◌}
+use Rattle.std.proofs.Common.{ℕ, suc, ◌≡◌, ◌-◌, ◌<◌, ◌≤◌, Bool, true, false, not, ◌==◌, ◌&&◌, List, [], ◌∷◌, ◌++◌, length, length-take, take, drop, Option, Some, None, refl, sym, ◌∙◌, ap, subst, arith, if◌then◌else◌}
 use Rattle.knx_model.specs.declared.device.FrameSupport.{FrameSupport}
 use Rattle.knx_model.specs.declared.frames.tpdu.Apdu.{Apdu}
 use Rattle.knx_model.specs.declared.frames.tpdu.Apdu.TheVariants.{MemoryRead, DescriptorRead, DescriptorResponse, PropertyRead, PropertyWrite}
@@ -140,40 +140,40 @@ any_whole Q nv e g (Worn octets) t = g (Some octets)
 -- ---- lists of operations as plans
 
 -- a list in octets leads where the operations lead
-pub octets_lead : (frames : FrameSupport) (P R : NonVolatile → Type 0) (ops : List Operation) (nv : NonVolatile) → AllWritable ops → OperationsLead frames P R ops nv → Leads (answer_in frames) P R (listed ops) nv
-octets_lead frames P R [] nv w h = h
-octets_lead frames P R (x ∷ xs) nv w h =
+pub octets_lead : (place : ℕ) (frames : FrameSupport) (P R : NonVolatile → Type 0) (ops : List Operation) (nv : NonVolatile) → AllWritable ops → OperationsLead frames P R ops nv → Leads (answer_in frames) P R (listed place ops) nv
+octets_lead place frames P R [] nv w h = h
+octets_lead place frames P R (x ∷ xs) nv w h =
     let e : effect_of x.service ≡ effect_in (apdu_octets x.service) = sym (effect_again x.service w.0.service) in (
       h.0,
       λ outcome. subst (λ (e : Effect). P (kept_after nv e outcome)) e (any_moment P nv (effect_of x.service) h.1 h.2 outcome),
-      λ outcome t s. subst (λ (e : Effect). Leads (answer_in frames) P R (listed xs) (kept_after nv e outcome)) e
-          (any_whole (Leads (answer_in frames) P R (listed xs)) nv (effect_of x.service)
-          (λ wear. octets_lead frames P R xs (taken_over nv (effect_of x.service) wear) w.1 (h.3 wear (suits_answer frames nv x w.0 s))) outcome t),
+      λ outcome t s. subst (λ (e : Effect). Leads (answer_in frames) P R (listed (suc place) xs) (kept_after nv e outcome)) e
+          (any_whole (Leads (answer_in frames) P R (listed (suc place) xs)) nv (effect_of x.service)
+          (λ wear. octets_lead (suc place) frames P R xs (taken_over nv (effect_of x.service) wear) w.1 (h.3 wear (suits_answer frames nv x w.0 s))) outcome t),
     )
 
-pub octets_serve : (frames : FrameSupport) (R : NonVolatile → Type 0) (ops : List Operation) (nv : NonVolatile) → AllWritable ops → OperationsServe frames R ops nv → AnswersAll (answer_in frames) (listed ops) nv × R (kept_by_all (answer_in frames) (listed ops) nv)
-octets_serve frames R [] nv w h = (tt, h)
-octets_serve frames R (x ∷ xs) nv w h =
+pub octets_serve : (place : ℕ) (frames : FrameSupport) (R : NonVolatile → Type 0) (ops : List Operation) (nv : NonVolatile) → AllWritable ops → OperationsServe frames R ops nv → AnswersAll (answer_in frames) (listed place ops) nv × R (kept_by_all (answer_in frames) (listed place ops) nv)
+octets_serve place frames R [] nv w h = (tt, h)
+octets_serve place frames R (x ∷ xs) nv w h =
     let e : effect_of x.service ≡ effect_in (apdu_octets x.service) = sym (effect_again x.service w.0.service) in
-    let rest : AnswersAll (answer_in frames) (listed xs) (whole nv (effect_of x.service)) × R (kept_by_all (answer_in frames) (listed xs) (whole nv (effect_of x.service))) = octets_serve frames R xs (whole nv (effect_of x.service)) w.1 h.1 in (
+    let rest : AnswersAll (answer_in frames) (listed (suc place) xs) (whole nv (effect_of x.service)) × R (kept_by_all (answer_in frames) (listed (suc place) xs) (whole nv (effect_of x.service))) = octets_serve (suc place) frames R xs (whole nv (effect_of x.service)) w.1 h.1 in (
       (
         answer_suits frames nv x w.0 h.0,
-        subst (λ (e : Effect). AnswersAll (answer_in frames) (listed xs) (whole nv e)) e rest.0,
+        subst (λ (e : Effect). AnswersAll (answer_in frames) (listed (suc place) xs) (whole nv e)) e rest.0,
       ),
-      subst (λ (e : Effect). R (kept_by_all (answer_in frames) (listed xs) (whole nv e))) e rest.1,
+      subst (λ (e : Effect). R (kept_by_all (answer_in frames) (listed (suc place) xs) (whole nv e))) e rest.1,
     )
 
-pub octets_served : (frames : FrameSupport) (ops : List Operation) (nv : NonVolatile) → AllWritable ops → AnswersAll (answer_in frames) (listed ops) nv → OperationsServe frames (λ _. Unit {0}) ops nv
-octets_served frames [] nv w h = tt
-octets_served frames (x ∷ xs) nv w h = (
+pub octets_served : (place : ℕ) (frames : FrameSupport) (ops : List Operation) (nv : NonVolatile) → AllWritable ops → AnswersAll (answer_in frames) (listed place ops) nv → OperationsServe frames (λ _. Unit {0}) ops nv
+octets_served place frames [] nv w h = tt
+octets_served place frames (x ∷ xs) nv w h = (
   suits_answer frames nv x w.0 h.0,
-  octets_served frames xs (whole nv (effect_of x.service)) w.1 (subst (λ (e : Effect). AnswersAll (answer_in frames) (listed xs) (whole nv e)) (effect_again x.service w.0.service) h.1),
+  octets_served (suc place) frames xs (whole nv (effect_of x.service)) w.1 (subst (λ (e : Effect). AnswersAll (answer_in frames) (listed (suc place) xs) (whole nv e)) (effect_again x.service w.0.service) h.1),
 )
 
-pub octets_sendable : (ops : List Operation) → AllWritable ops → IsSendable (listed ops)
-octets_sendable [] w = tt
-octets_sendable (x ∷ xs) w = (
+pub octets_sendable : (place : ℕ) (ops : List Operation) → AllWritable ops → IsSendable (listed place ops)
+octets_sendable place [] w = tt
+octets_sendable place (x ∷ xs) w = (
   written_apdu x.service w.0.service,
   w.0.awaits ∙ sym (ap (λ (s : Option Apdu). not (is_memory_write s)) (service_again x.service w.0.service)),
-  λ answer. octets_sendable xs w.1,
+  λ answer. octets_sendable (suc place) xs w.1,
 )

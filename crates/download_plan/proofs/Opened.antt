@@ -44,15 +44,15 @@ kept_read : (s : Apdu) → IsApduInRange s → effect_of s ≡ Nothing → (nv :
 kept_read s r e nv outcome = ap (λ (e : Effect). kept_after nv e outcome) (effect_again s r ∙ e) ∙ kept_nothing nv outcome
 
 -- where the rest leads with pieces of either size, the plan leads, whatever is noted
-noting_leads : (frames : FrameSupport) (P R : NonVolatile → Type 0) (operations : PieceSize → List Operation) (start : NonVolatile) → P start → ((size : PieceSize) → Leads (answer_in frames) P R (listed (operations size)) start) → Leads (answer_in frames) P R (noting operations) start
+noting_leads : (frames : FrameSupport) (P R : NonVolatile → Type 0) (operations : PieceSize → List Operation) (start : NonVolatile) → P start → ((size : PieceSize) → Leads (answer_in frames) P R (listed 2 (operations size)) start) → Leads (answer_in frames) P R (noting operations) start
 noting_leads frames P R operations start h k = (
   h,
   λ outcome. subst P (sym (kept_read reads_length length_in_range refl start outcome)) h,
-  λ outcome t s. subst (Leads (answer_in frames) P R (listed (operations (size_by (answer_in frames start (apdu_octets reads_length)))))) (sym (kept_read reads_length length_in_range refl start outcome))
+  λ outcome t s. subst (Leads (answer_in frames) P R (listed 2 (operations (size_by (answer_in frames start (apdu_octets reads_length)))))) (sym (kept_read reads_length length_in_range refl start outcome))
       (k (size_by (answer_in frames start (apdu_octets reads_length)))),
 )
 
-pub opened_leads : (frames : FrameSupport) (P R : NonVolatile → Type 0) (operations : PieceSize → List Operation) (start : NonVolatile) → P start → ((size : PieceSize) → Leads (answer_in frames) P R (listed (operations size)) start) → Leads (answer_in frames) P R (opened operations) start
+pub opened_leads : (frames : FrameSupport) (P R : NonVolatile → Type 0) (operations : PieceSize → List Operation) (start : NonVolatile) → P start → ((size : PieceSize) → Leads (answer_in frames) P R (listed 2 (operations size)) start) → Leads (answer_in frames) P R (opened operations) start
 opened_leads frames P R operations start h k = (
   h,
   λ outcome. subst P (sym (kept_read (DescriptorRead 0) descriptor_writable.service refl start outcome)) h,
@@ -95,27 +95,27 @@ after_descriptor nv = ap (whole nv) (effect_again (DescriptorRead 0) descriptor_
 after_length : (nv : NonVolatile) → whole nv (effect_in (apdu_octets reads_length)) ≡ nv
 after_length nv = ap (whole nv) (effect_again reads_length length_in_range)
 
-noting_kept : (frames : FrameSupport) (operations : PieceSize → List Operation) (nv : NonVolatile) → kept_by_all (answer_in frames) (noting operations) nv ≡ kept_by_all (answer_in frames) (listed (operations (size_of frames))) nv
+noting_kept : (frames : FrameSupport) (operations : PieceSize → List Operation) (nv : NonVolatile) → kept_by_all (answer_in frames) (noting operations) nv ≡ kept_by_all (answer_in frames) (listed 2 (operations (size_of frames))) nv
 noting_kept frames operations nv =
-    ap (kept_by_all (answer_in frames) (listed (operations (size_by (answer_in frames nv (apdu_octets reads_length)))))) (after_length nv)
-    ∙ ap (λ (size : PieceSize). kept_by_all (answer_in frames) (listed (operations size)) nv) (size_is frames nv)
+    ap (kept_by_all (answer_in frames) (listed 2 (operations (size_by (answer_in frames nv (apdu_octets reads_length)))))) (after_length nv)
+    ∙ ap (λ (size : PieceSize). kept_by_all (answer_in frames) (listed 2 (operations size)) nv) (size_is frames nv)
 
-pub opened_kept : (frames : FrameSupport) (operations : PieceSize → List Operation) (nv : NonVolatile) → kept_by_all (answer_in frames) (opened operations) nv ≡ kept_by_all (answer_in frames) (listed (operations (size_of frames))) nv
+pub opened_kept : (frames : FrameSupport) (operations : PieceSize → List Operation) (nv : NonVolatile) → kept_by_all (answer_in frames) (opened operations) nv ≡ kept_by_all (answer_in frames) (listed 2 (operations (size_of frames))) nv
 opened_kept frames operations nv = ap (kept_by_all (answer_in frames) (noting operations)) (after_descriptor nv) ∙ noting_kept frames operations nv
 
-pub opened_answers : (frames : FrameSupport) (operations : PieceSize → List Operation) (nv : NonVolatile) → AnswersAll (answer_in frames) (listed (operations (size_of frames))) nv → AnswersAll (answer_in frames) (opened operations) nv
+pub opened_answers : (frames : FrameSupport) (operations : PieceSize → List Operation) (nv : NonVolatile) → AnswersAll (answer_in frames) (listed 2 (operations (size_of frames))) nv → AnswersAll (answer_in frames) (opened operations) nv
 opened_answers frames operations nv h =
-    let rest : AnswersAll (answer_in frames) (listed (operations (size_by (answer_in frames nv (apdu_octets reads_length))))) nv
-    = subst (λ (size : PieceSize). AnswersAll (answer_in frames) (listed (operations size)) nv) (sym (size_is frames nv)) h in
+    let rest : AnswersAll (answer_in frames) (listed 2 (operations (size_by (answer_in frames nv (apdu_octets reads_length))))) nv
+    = subst (λ (size : PieceSize). AnswersAll (answer_in frames) (listed 2 (operations size)) nv) (sym (size_is frames nv)) h in
     let noted : AnswersAll (answer_in frames) (noting operations) nv
-    = (length_suits frames nv, subst (AnswersAll (answer_in frames) (listed (operations (size_by (answer_in frames nv (apdu_octets reads_length)))))) (sym (after_length nv)) rest) in
+    = (length_suits frames nv, subst (AnswersAll (answer_in frames) (listed 2 (operations (size_by (answer_in frames nv (apdu_octets reads_length)))))) (sym (after_length nv)) rest) in
     (answer_suits frames nv descriptor descriptor_writable refl, subst (AnswersAll (answer_in frames) (noting operations)) (sym (after_descriptor nv)) noted)
 
-pub opened_answered : (frames : FrameSupport) (operations : PieceSize → List Operation) (nv : NonVolatile) → AnswersAll (answer_in frames) (opened operations) nv → AnswersAll (answer_in frames) (listed (operations (size_of frames))) nv
+pub opened_answered : (frames : FrameSupport) (operations : PieceSize → List Operation) (nv : NonVolatile) → AnswersAll (answer_in frames) (opened operations) nv → AnswersAll (answer_in frames) (listed 2 (operations (size_of frames))) nv
 opened_answered frames operations nv h =
     let noted : AnswersAll (answer_in frames) (noting operations) nv = subst (AnswersAll (answer_in frames) (noting operations)) (after_descriptor nv) h.1 in
-    subst (λ (size : PieceSize). AnswersAll (answer_in frames) (listed (operations size)) nv) (size_is frames nv)
-    (subst (AnswersAll (answer_in frames) (listed (operations (size_by (answer_in frames nv (apdu_octets reads_length)))))) (after_length nv) noted.1)
+    subst (λ (size : PieceSize). AnswersAll (answer_in frames) (listed 2 (operations size)) nv) (size_is frames nv)
+    (subst (AnswersAll (answer_in frames) (listed 2 (operations (size_by (answer_in frames nv (apdu_octets reads_length)))))) (after_length nv) noted.1)
 
 pub opened_sendable : (operations : PieceSize → List Operation) → ((size : PieceSize) → AllWritable (operations size)) → IsSendable (opened operations)
 opened_sendable operations w = (
@@ -124,6 +124,6 @@ opened_sendable operations w = (
   λ _. (
     written_apdu reads_length length_in_range,
     sym (ap (λ (s : Option Apdu). not (is_memory_write s)) (service_again reads_length length_in_range)),
-    λ answer. octets_sendable (operations (size_by answer)) (w (size_by answer)),
+    λ answer. octets_sendable 2 (operations (size_by answer)) (w (size_by answer)),
   ),
 )

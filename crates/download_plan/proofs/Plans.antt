@@ -15,14 +15,14 @@ use Rattle.download_plan.proofs.Opened.{opened_leads, opened_kept, opened_answer
 use Rattle.download_plan.proofs.Checked.{reads_serve_as, served_reads, reads_stay, check_reads, checked_runs, runs_checked}
 use Rattle.download_plan.proofs.Writable.{load_writable, check_writable}
 
-rest_leads : (frames : FrameSupport) (image : Image) (size : PieceSize) → Fits image → (start : NonVolatile) → Leads (answer_in frames) (OldStoppedOrImage start image) (λ nv. runs nv ≡ Some image) (listed (load_operations image size)) start
+rest_leads : (frames : FrameSupport) (image : Image) (size : PieceSize) → Fits image → (start : NonVolatile) → Leads (answer_in frames) (OldStoppedOrImage start image) (λ nv. runs nv ≡ Some image) (listed 2 (load_operations image size)) start
 rest_leads frames image size f start =
-    octets_lead frames (OldStoppedOrImage start image) (λ nv. runs nv ≡ Some image) (load_operations image size) start (load_writable image size) (operations_good frames size image f start)
+    octets_lead 2 frames (OldStoppedOrImage start image) (λ nv. runs nv ≡ Some image) (load_operations image size) start (load_writable image size) (operations_good frames size image f start)
 
-pub rest_good : (image : Image) (size : PieceSize) → Fits image → GoodPlan (listed (load_operations image size)) image
+pub rest_good : (image : Image) (size : PieceSize) → Fits image → GoodPlan (listed 2 (load_operations image size)) image
 rest_good image size f = record {
-  beginnings = λ frames start end b. Leads-beginning (answer_in frames) (OldStoppedOrImage start image) (λ nv. runs nv ≡ Some image) (listed (load_operations image size)) start end b (rest_leads frames image size f start);
-  whole_runs = λ frames start end w. Leads-whole (answer_in frames) (OldStoppedOrImage start image) (λ nv. runs nv ≡ Some image) (listed (load_operations image size)) start end w (rest_leads frames image size f start);
+  beginnings = λ frames start end b. Leads-beginning (answer_in frames) (OldStoppedOrImage start image) (λ nv. runs nv ≡ Some image) (listed 2 (load_operations image size)) start end b (rest_leads frames image size f start);
+  whole_runs = λ frames start end w. Leads-whole (answer_in frames) (OldStoppedOrImage start image) (λ nv. runs nv ≡ Some image) (listed 2 (load_operations image size)) start end w (rest_leads frames image size f start);
 }
 
 pub plan_leads : (frames : FrameSupport) (image : Image) → Fits image → (start : NonVolatile) → Leads (answer_in frames) (OldStoppedOrImage start image) (λ nv. runs nv ≡ Some image) (load_plan image) start
@@ -37,9 +37,9 @@ plan_good image f = record {
 }
 
 rest_serves : (frames : FrameSupport) (image : Image) → Fits image → (nv : NonVolatile) → HasCapacities nv
-    → AnswersAll (answer_in frames) (listed (load_operations image (size_of frames))) nv × (runs (kept_by_all (answer_in frames) (listed (load_operations image (size_of frames))) nv) ≡ Some image)
+    → AnswersAll (answer_in frames) (listed 2 (load_operations image (size_of frames))) nv × (runs (kept_by_all (answer_in frames) (listed 2 (load_operations image (size_of frames))) nv) ≡ Some image)
 rest_serves frames image f nv h =
-    octets_serve frames (λ u. runs u ≡ Some image) (load_operations image (size_of frames)) nv (load_writable image (size_of frames)) (operations_serve frames (size_of frames) image (size_read frames) f nv h)
+    octets_serve 2 frames (λ u. runs u ≡ Some image) (load_operations image (size_of frames)) nv (load_writable image (size_of frames)) (operations_serve frames (size_of frames) image (size_read frames) f nv h)
 
 pub plan_answers : (image : Image) → Fits image → (frames : FrameSupport) (nv : NonVolatile) → HasCapacities nv → AnswersAll (answer_in frames) (load_plan image) nv
 unfolding load_plan
@@ -59,10 +59,10 @@ check_sendable image = opened_sendable (check_operations image) (check_writable 
 
 -- ---- the check plan
 
-check_rest : (image : Image) → Fits image → (frames : FrameSupport) (nv : NonVolatile) → HasCapacities nv → AnswersAll (answer_in frames) (listed (check_operations image (size_of frames))) nv → runs nv ≡ Some image
+check_rest : (image : Image) → Fits image → (frames : FrameSupport) (nv : NonVolatile) → HasCapacities nv → AnswersAll (answer_in frames) (listed 2 (check_operations image (size_of frames))) nv → runs nv ≡ Some image
 check_rest image f frames nv c h =
     checked_runs frames image (size_of frames) nv f c (served_reads frames (check_operations image (size_of frames)) nv (check_reads image (size_of frames))
-    (octets_served frames (check_operations image (size_of frames)) nv (check_writable image (size_of frames)) h))
+    (octets_served 2 frames (check_operations image (size_of frames)) nv (check_writable image (size_of frames)) h))
 
 pub check_runs : (image : Image) → Fits image → (frames : FrameSupport) (nv : NonVolatile) → HasCapacities nv → AnswersAll (answer_in frames) (check_plan image) nv → runs nv ≡ Some image
 unfolding check_plan
@@ -72,14 +72,14 @@ pub check_answers : (image : Image) → Fits image → (frames : FrameSupport) (
 unfolding check_plan
 check_answers image f frames nv c e =
     opened_answers frames (check_operations image) nv
-    (octets_serve frames (λ _. Unit {0}) (check_operations image (size_of frames)) nv (check_writable image (size_of frames))
+    (octets_serve 2 frames (λ _. Unit {0}) (check_operations image (size_of frames)) nv (check_writable image (size_of frames))
     (reads_serve_as frames (check_operations image (size_of frames)) nv (check_reads image (size_of frames)) (runs_checked frames image (size_of frames) nv (size_read frames) f c e))).0
 
 pub check_leads : (image : Image) (frames : FrameSupport) (start : NonVolatile) → Leads (answer_in frames) (λ u. u ≡ start) (λ u. u ≡ start) (check_plan image) start
 unfolding check_plan
 check_leads image frames start =
     opened_leads frames (λ u. u ≡ start) (λ u. u ≡ start) (check_operations image) start refl
-    (λ size. octets_lead frames (λ u. u ≡ start) (λ u. u ≡ start) (check_operations image size) start (check_writable image size) (reads_stay frames (check_operations image size) start (check_reads image size)))
+    (λ size. octets_lead 2 frames (λ u. u ≡ start) (λ u. u ≡ start) (check_operations image size) start (check_writable image size) (reads_stay frames (check_operations image size) start (check_reads image size)))
 
 pub check_stays : (image : Image) (frames : FrameSupport) (start end : NonVolatile) → Beginning (answer_in frames) (check_plan image) start end → end ≡ start
 check_stays image frames start end b = Leads-beginning (answer_in frames) (λ u. u ≡ start) (λ u. u ≡ start) (check_plan image) start end b (check_leads image frames start)

@@ -62,9 +62,9 @@ abbrev AllFit : FrameSupport → List Operation → Type 0
 AllFit frames [] = Unit {0}
 AllFit frames (x ∷ xs) = FitsInto frames (apdu_octets x.service) × AllFit frames xs
 
-listed_served : (frames : FrameSupport) (ops : List Operation) → AllWritable ops → AllKnown ops → AllFit frames ops → (nv : NonVolatile) → IsServed frames (listed ops) nv
-listed_served frames [] w k f nv = tt
-listed_served frames (x ∷ xs) w k f nv = (f.0, answered frames nv x.service k.0 w.0.service, λ suits. listed_served frames xs w.1 k.1 f.1 (whole nv (effect_in (apdu_octets x.service))))
+listed_served : (place : ℕ) (frames : FrameSupport) (ops : List Operation) → AllWritable ops → AllKnown ops → AllFit frames ops → (nv : NonVolatile) → IsServed frames (listed place ops) nv
+listed_served place frames [] w k f nv = tt
+listed_served place frames (x ∷ xs) w k f nv = (f.0, answered frames nv x.service k.0 w.0.service, λ suits. listed_served (suc place) frames xs w.1 k.1 f.1 (whole nv (effect_in (apdu_octets x.service))))
 
 any_fit : (ops : List Operation) → AllFit Extended ops
 any_fit [] = tt
@@ -76,11 +76,11 @@ short_fit (x ∷ xs) h = (h.0, short_fit xs h.1)
 
 -- ---- the plans' first two operations
 
-noting_served : (frames : FrameSupport) (operations : PieceSize → List Operation) (nv : NonVolatile) → ((size : PieceSize) → size ≡ size_of frames → (u : NonVolatile) → IsServed frames (listed (operations size)) u) → IsServed frames (noting operations) nv
+noting_served : (frames : FrameSupport) (operations : PieceSize → List Operation) (nv : NonVolatile) → ((size : PieceSize) → size ≡ size_of frames → (u : NonVolatile) → IsServed frames (listed 2 (operations size)) u) → IsServed frames (noting operations) nv
 noting_served Standard operations nv rest = (omega arith, answered Standard nv (PropertyRead 0 56 1 1) tt length_in_range, λ suits. rest _ (size_is Standard nv) _)
 noting_served Extended operations nv rest = (tt, answered Extended nv (PropertyRead 0 56 1 1) tt length_in_range, λ suits. rest _ (size_is Extended nv) _)
 
-opened_served : (frames : FrameSupport) (operations : PieceSize → List Operation) (nv : NonVolatile) → ((size : PieceSize) → size ≡ size_of frames → (u : NonVolatile) → IsServed frames (listed (operations size)) u) → IsServed frames (opened operations) nv
+opened_served : (frames : FrameSupport) (operations : PieceSize → List Operation) (nv : NonVolatile) → ((size : PieceSize) → size ≡ size_of frames → (u : NonVolatile) → IsServed frames (listed 2 (operations size)) u) → IsServed frames (opened operations) nv
 opened_served Standard operations nv rest = (omega arith, answered Standard nv (DescriptorRead 0) tt descriptor_writable.service, λ suits. noting_served Standard operations _ rest)
 opened_served Extended operations nv rest = (tt, answered Extended nv (DescriptorRead 0) tt descriptor_writable.service, λ suits. noting_served Extended operations _ rest)
 
@@ -135,9 +135,9 @@ checks_fit Extended image size e = any_fit _
 pub load_served : (image : Image) (frames : FrameSupport) (nv : NonVolatile) → IsServed frames (load_plan image) nv
 unfolding load_plan
 load_served image frames nv =
-    opened_served frames (load_operations image) nv (λ size e u. listed_served frames (load_operations image size) (load_writable image size) (loads_known image size) (loads_fit frames image size e) u)
+    opened_served frames (load_operations image) nv (λ size e u. listed_served 2 frames (load_operations image size) (load_writable image size) (loads_known image size) (loads_fit frames image size e) u)
 
 pub check_served : (image : Image) (frames : FrameSupport) (nv : NonVolatile) → IsServed frames (check_plan image) nv
 unfolding check_plan
 check_served image frames nv =
-    opened_served frames (check_operations image) nv (λ size e u. listed_served frames (check_operations image size) (check_writable image size) (checks_known image size) (checks_fit frames image size e) u)
+    opened_served frames (check_operations image) nv (λ size e u. listed_served 2 frames (check_operations image size) (check_writable image size) (checks_known image size) (checks_fit frames image size e) u)

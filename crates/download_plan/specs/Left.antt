@@ -15,7 +15,7 @@ pub record Listening : Type 0 where
 abbrev pub left_of : (PieceSize → List Operation) → PieceSize → ℕ → Plan
 left_of operations size zero = opened operations
 left_of operations size (suc zero) = noting operations
-left_of operations size (suc (suc k)) = listed (drop k (operations size))
+left_of operations size (suc (suc k)) = listed (suc (suc k)) (drop k (operations size))
 
 unfoldable pub load_left : Listening → ℕ → Plan
 load_left p k = left_of (load_operations p.image) p.size k

@@ -14,7 +14,7 @@ ghost use Rattle.knx_model.specs.Served.{IsServed};
 #[tactic(auto, using(crate::proofs::Plans::plan_good, crate::proofs::Plans::rest_good))]
 pub fn each_plan_is_good()
     ensures good { (image : Image) → Fits image → GoodPlan (load_plan image) image }
-    ensures whatever_is_noted { (image : Image) (size : PieceSize) → Fits image → GoodPlan (listed (load_operations image size)) image }
+    ensures whatever_is_noted { (image : Image) (size : PieceSize) → Fits image → GoodPlan (listed 2 (load_operations image size)) image }
 {}
 
 /// A device that nothing disturbs gives every expected answer to a load plan, and then runs the image, whichever frames it takes.

@@ -28,15 +28,15 @@ IsNotTorn (Torn fresh octets) = ⊥
 -- and is the last; or it is taken whole or worn and answered as wanted, and then comes a beginning of the plan that follows.
 pub data Beginning (answers : Answering) : Plan → NonVolatile → NonVolatile → Type 0 where
   NotBegun : (plan : Plan) (nv : NonVolatile) → Beginning answers plan nv nv
-  Last : (apdu : List ℕ) (expect : Expect) (next : Option (List ℕ) → Plan) (nv : NonVolatile) (outcome : Outcome) → Beginning answers (Asks apdu expect next) nv (kept_by nv apdu outcome)
-  Then : (apdu : List ℕ) (expect : Expect) (next : Option (List ℕ) → Plan) (nv : NonVolatile) (outcome : Outcome) (end : NonVolatile)
-      → IsNotTorn outcome → Suits apdu expect (answers nv apdu) → Beginning answers (next (answers nv apdu)) (kept_by nv apdu outcome) end → Beginning answers (Asks apdu expect next) nv end
+  Last : (place : ℕ) (apdu : List ℕ) (expect : Expect) (next : Option (List ℕ) → Plan) (nv : NonVolatile) (outcome : Outcome) → Beginning answers (Asks place apdu expect next) nv (kept_by nv apdu outcome)
+  Then : (place : ℕ) (apdu : List ℕ) (expect : Expect) (next : Option (List ℕ) → Plan) (nv : NonVolatile) (outcome : Outcome) (end : NonVolatile)
+      → IsNotTorn outcome → Suits apdu expect (answers nv apdu) → Beginning answers (next (answers nv apdu)) (kept_by nv apdu outcome) end → Beginning answers (Asks place apdu expect next) nv end
 
 -- a whole run: each operation is taken whole or worn and answered as wanted, until the plan is over
 pub data WholeRun (answers : Answering) : Plan → NonVolatile → NonVolatile → Type 0 where
   AtEnd : (nv : NonVolatile) → WholeRun answers Over nv nv
-  Goes : (apdu : List ℕ) (expect : Expect) (next : Option (List ℕ) → Plan) (nv : NonVolatile) (outcome : Outcome) (end : NonVolatile)
-      → IsNotTorn outcome → Suits apdu expect (answers nv apdu) → WholeRun answers (next (answers nv apdu)) (kept_by nv apdu outcome) end → WholeRun answers (Asks apdu expect next) nv end
+  Goes : (place : ℕ) (apdu : List ℕ) (expect : Expect) (next : Option (List ℕ) → Plan) (nv : NonVolatile) (outcome : Outcome) (end : NonVolatile)
+      → IsNotTorn outcome → Suits apdu expect (answers nv apdu) → WholeRun answers (next (answers nv apdu)) (kept_by nv apdu outcome) end → WholeRun answers (Asks place apdu expect next) nv end
 
 -- the content is as it was at the start, or the device doesn't run, or it runs the image
 abbrev pub OldStoppedOrImage : NonVolatile → Image → NonVolatile → Type 0
@@ -51,17 +51,17 @@ pub record GoodPlan (plan : Plan) (image : Image) : Type 0 where
 -- from nv on each operation is answered as wanted
 abbrev pub AnswersAll : Answering → Plan → NonVolatile → Type 0
 AnswersAll answers Over nv = Unit {0}
-AnswersAll answers (Asks apdu expect next) nv = Suits apdu expect (answers nv apdu) × AnswersAll answers (next (answers nv apdu)) (whole nv (effect_in apdu))
+AnswersAll answers (Asks place apdu expect next) nv = Suits apdu expect (answers nv apdu) × AnswersAll answers (next (answers nv apdu)) (whole nv (effect_in apdu))
 
 -- what is kept after all operations
 abbrev pub kept_by_all : Answering → Plan → NonVolatile → NonVolatile
 kept_by_all answers Over nv = nv
-kept_by_all answers (Asks apdu expect next) nv = kept_by_all answers (next (answers nv apdu)) (whole nv (effect_in apdu))
+kept_by_all answers (Asks place apdu expect next) nv = kept_by_all answers (next (answers nv apdu)) (whole nv (effect_in apdu))
 
 -- the services that are given, in order
 abbrev pub services_given : Answering → Plan → NonVolatile → List (List ℕ)
 services_given answers Over nv = []
-services_given answers (Asks apdu expect next) nv = apdu ∷ services_given answers (next (answers nv apdu)) (whole nv (effect_in apdu))
+services_given answers (Asks place apdu expect next) nv = apdu ∷ services_given answers (next (answers nv apdu)) (whole nv (effect_in apdu))
 
 -- ---- what a client can send
 
@@ -73,4 +73,4 @@ awaits_answer Note = true
 -- each operation is an APDU with transport bits 0, and awaits an answer exactly where its service has one
 abbrev pub IsSendable : Plan → Type 0
 IsSendable Over = Unit {0}
-IsSendable (Asks apdu expect next) = IsApdu apdu × (awaits_answer expect ≡ has_answer apdu) × ((answer : Option (List ℕ)) → IsSendable (next answer))
+IsSendable (Asks place apdu expect next) = IsApdu apdu × (awaits_answer expect ≡ has_answer apdu) × ((answer : Option (List ℕ)) → IsSendable (next answer))

@@ -1,5 +1,6 @@
 -- The plan that loads an image, and the plan that checks whether a device runs it. Each begins with two reads: the descriptor, which is
--- expected, and the greatest length of an APDU, which is noted, since it settles how long the pieces are.
+-- expected, and the greatest length of an APDU, which is noted, since it settles how long the pieces are. These are the operations 0 and 1;
+-- what follows is numbered from 2 on.
 use Rattle.std.specs.Prelude.{ℕ, ◌+◌, ◌*◌, ◌&&◌, ◌==◌, nat_le, List, [], ◌∷◌, ◌++◌, Option, Some, None, if◌then◌else◌}
 use Rattle.knx_model.specs.declared.config.Image.{Image}
 use Rattle.knx_model.specs.declared.loading.LoadState.TheVariants.{Unloaded}
@@ -49,11 +50,11 @@ each_object operations = operations AddressTable ++ (operations AssociationTable
 
 -- property 56 of the device object is read, and what follows is settled by its answer
 abbrev pub noting : (PieceSize → List Operation) → Plan
-noting operations = Asks (apdu_octets (PropertyRead 0 56 1 1)) Note (λ answer. listed (operations (size_by answer)))
+noting operations = Asks 1 (apdu_octets (PropertyRead 0 56 1 1)) Note (λ answer. listed 2 (operations (size_by answer)))
 
 -- the descriptor is read, of a System B device, and then property 56
 abbrev pub opened : (PieceSize → List Operation) → Plan
-opened operations = Asks (apdu_octets (DescriptorRead 0)) (Is (apdu_octets (DescriptorResponse 0 (Some 0x07B0)))) (λ _. noting operations)
+opened operations = Asks 0 (apdu_octets (DescriptorRead 0)) (Is (apdu_octets (DescriptorResponse 0 (Some 0x07B0)))) (λ _. noting operations)
 
 -- the application is unloaded first and loaded last
 unfoldable pub load_operations : Image → PieceSize → List Operation

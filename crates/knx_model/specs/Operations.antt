@@ -1,6 +1,6 @@
 -- The operations of the plans: for each loadable object, in the standard's order of loading (ISO/IEC 14543-3-4, management procedures).
 -- Its pieces, and that all is read back, are this project's own.
-use Rattle.std.specs.Prelude.{ℕ, ◌+◌, ◌-◌, ◌*◌, ◌/◌, ◌%◌, nat_lt, List, [], ◌∷◌, ◌++◌, length, take, drop, map, Option, Some, None, if◌then◌else◌}
+use Rattle.std.specs.Prelude.{ℕ, suc, ◌+◌, ◌-◌, ◌*◌, ◌/◌, ◌%◌, nat_lt, List, [], ◌∷◌, ◌++◌, length, take, drop, map, Option, Some, None, if◌then◌else◌}
 use Rattle.std.specs.List.{range_with_len}
 use Rattle.knx_model.specs.declared.loading.LoadState.{LoadState}
 use Rattle.knx_model.specs.declared.loading.LoadState.TheVariants.{Unloaded, Loaded, Loading}
@@ -36,10 +36,10 @@ abbrev pub expect_of : Option Apdu → Expect
 expect_of None = AckOnly
 expect_of (Some expected) = Is (apdu_octets expected)
 
--- the plan that is these operations, whatever they are answered
-abbrev pub listed : List Operation → Plan
-listed [] = Over
-listed (operation ∷ operations) = Asks (apdu_octets operation.service) (expect_of operation.expected) (λ _. listed operations)
+-- the plan that is these operations, numbered from `place` on, whatever they are answered
+abbrev pub listed : ℕ → List Operation → Plan
+listed place [] = Over
+listed place (operation ∷ operations) = Asks place (apdu_octets operation.service) (expect_of operation.expected) (λ _. listed (suc place) operations)
 
 -- ---- load events and properties
 

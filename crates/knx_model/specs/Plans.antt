@@ -8,10 +8,11 @@ use Rattle.knx_model.specs.declared.plan.Expect.{Expect}
 use Rattle.knx_model.specs.declared.plan.Expect.TheVariants.{AckOnly, Is, Note}
 use Rattle.knx_model.specs.ApduReading.{service_in}
 
--- An operation asks for a service, by its octets with transport bits 0. The answer is none where the acknowledgement is all.
+-- An operation asks for a service, by its octets with transport bits 0. The answer is none where the acknowledgement is all. Each has its number among
+-- all of the plan, its place, from 0 on; one that is passed over isn't in the tree, and its number isn't either.
 pub data Plan : Type 0 where
   Over : Plan
-  Asks : List ℕ → Expect → (Option (List ℕ) → Plan) → Plan
+  Asks : ℕ → List ℕ → Expect → (Option (List ℕ) → Plan) → Plan
 
 -- ---- which answer is wanted
 
@@ -40,19 +41,19 @@ Suits apdu _ _ = ⊥
 
 -- ---- a position in a plan
 
--- The operation stands at the head of the plan, and `rest` follows it. What follows one whose answer is noted is settled by its answer
--- alone.
-abbrev pub IsHead : List ℕ → Expect → Plan → Plan → Type 0
-IsHead apdu AckOnly plan rest = plan ≡ Asks apdu AckOnly (λ _. rest)
-IsHead apdu (Is wanted) plan rest = plan ≡ Asks apdu (Is wanted) (λ _. rest)
-IsHead apdu Note plan rest = (next : Option (List ℕ) → Plan) × (plan ≡ Asks apdu Note next)
+-- The operation with this number stands at the head of the plan, and `rest` follows it. What follows one whose answer is noted is settled by
+-- its answer alone.
+abbrev pub IsHead : ℕ → List ℕ → Expect → Plan → Plan → Type 0
+IsHead place apdu AckOnly plan rest = plan ≡ Asks place apdu AckOnly (λ _. rest)
+IsHead place apdu (Is wanted) plan rest = plan ≡ Asks place apdu (Is wanted) (λ _. rest)
+IsHead place apdu Note plan rest = (next : Option (List ℕ) → Plan) × (plan ≡ Asks place apdu Note next)
 
 -- the answer to the plan's first operation is noted
 abbrev pub IsNoted : Plan → Type 0
-IsNoted (Asks apdu Note next) = Unit {0}
+IsNoted (Asks place apdu Note next) = Unit {0}
 IsNoted _ = ⊥
 
 -- what follows the plan's first operation where this is its answer
 abbrev pub followed : Plan → List ℕ → Plan
 followed Over got = Over
-followed (Asks apdu expect next) got = next (Some got)
+followed (Asks place apdu expect next) got = next (Some got)

@@ -16,5 +16,5 @@ FitsInto Extended apdu = Unit {0}
 -- from this content on, as long as each answer is the wanted one
 abbrev pub IsServed : FrameSupport → Plan → NonVolatile → Type 0
 IsServed frames Over nv = Unit {0}
-IsServed frames (Asks apdu expect next) nv =
+IsServed frames (Asks place apdu expect next) nv =
     FitsInto frames apdu × (is_some (answer_in frames nv apdu) ≡ has_answer apdu) × (Suits apdu expect (answer_in frames nv apdu) → IsServed frames (next (answer_in frames nv apdu)) (whole nv (effect_in apdu)))

@@ -30,7 +30,8 @@ pub trait PlanSource: Drop {
     /// How many operations there are, by what was noted.
     ghost count: { Self → ℕ };
 
-    /// The plan from an operation on, by what was noted.
+    /// The plan from an operation on, by what was noted. Each operation has its place for its number. From one that is passed over on,
+    /// the plan is that from the next one on, so that `left k ≡ left (k + 1)`; no plan here passes over one, since `op` gives each.
     ghost left: { Self → ℕ → Plan };
 
     /// How many operations there are.
@@ -41,7 +42,7 @@ pub trait PlanSource: Drop {
     /// The k-th operation, from 0 on. It takes no memory.
     fn op(&self, k: u32) -> Op
         requires { k < count self.now }
-        ensures { IsHead result.apdu result.expect (left self.now k) (left self.now (k + 1)) };
+        ensures { IsHead k result.apdu result.expect (left self.now k) (left self.now (k + 1)) };
 
     /// Notes the answer that came to the k-th operation. Where that one isn't noted, nothing changes.
     fn note(&mut self, k: u32, got: &[u8])

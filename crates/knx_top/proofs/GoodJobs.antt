@@ -20,11 +20,11 @@ use Rattle.call_parts.specs.Jobs.{ArePlanned, is_load, plan_of}
 -- a whole run of a plan that changes nothing gives every answer
 all_answered : (answers : Answering) (plan : Plan) (nv end : NonVolatile) → ((last : NonVolatile) → Beginning answers plan nv last → last ≡ nv) → WholeRun answers plan nv end → AnswersAll answers plan nv
 all_answered answers _ _ _ stays (AtEnd nv) = tt
-all_answered answers _ _ _ stays (Goes apdu expect next nv outcome end not_torn suits rest) =
-    let same : kept_by nv apdu outcome ≡ nv = stays (kept_by nv apdu outcome) (Last apdu expect next nv outcome) in
-    let still : nv ≡ whole nv (effect_in apdu) = sym (stays (kept_by nv apdu Whole) (Last apdu expect next nv Whole)) in
+all_answered answers _ _ _ stays (Goes place apdu expect next nv outcome end not_torn suits rest) =
+    let same : kept_by nv apdu outcome ≡ nv = stays (kept_by nv apdu outcome) (Last place apdu expect next nv outcome) in
+    let still : nv ≡ whole nv (effect_in apdu) = sym (stays (kept_by nv apdu Whole) (Last place apdu expect next nv Whole)) in
     let later : (last : NonVolatile) → Beginning answers (next (answers nv apdu)) (kept_by nv apdu outcome) last → last ≡ kept_by nv apdu outcome
-    = λ last b. stays last (Then apdu expect next nv outcome last not_torn suits b) ∙ sym same in
+    = λ last b. stays last (Then place apdu expect next nv outcome last not_torn suits b) ∙ sym same in
     (suits, subst (AnswersAll answers (next (answers nv apdu))) (same ∙ still) (all_answered answers (next (answers nv apdu)) (kept_by nv apdu outcome) end later rest))
 
 check_tells : (image : Image) → Fits image → (frames : FrameSupport) (start end : NonVolatile) → HasCapacities start → WholeRun (answer_in frames) (check_plan image) start end → runs start ≡ Some image

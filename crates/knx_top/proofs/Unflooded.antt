@@ -38,7 +38,7 @@ most = 15897
 
 costs_less : (plan : Plan) (n m : ℕ) → n ≤ m → CostsAtMost plan n → CostsAtMost plan m
 costs_less Over n m le h = tt
-costs_less (Asks apdu expect next) n m le h = (let within = h.1 in (h.0, omega (arith, within, le), h.2))
+costs_less (Asks place apdu expect next) n m le h = (let within = h.1 in (h.0, omega (arith, within, le), h.2))
 
 few_objects : (project : Installation) (job : Job) (word : JobWord) → IsPlanned project job word → length job.image.objs ≤ 512
 few_objects project job word p =

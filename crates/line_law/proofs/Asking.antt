@@ -97,11 +97,11 @@ module _ (a : ℕ) (address : IndAddr) (IsJob : Plan → Type 0) (device : IndAd
         reply_fits Ended y = plain
 
     -- the plan's next operation
-    asked_stands : (apdu : List ℕ) (expect : Expect) (next : Option (List ℕ) → Plan) (sent accepted : List (List ℕ)) → awaits_answer expect ≡ has_answer apdu → Went plan sent accepted (Operation apdu expect next) → Stands (has_answer apdu) plan (sent_of (Operation apdu expect next)) (apdu ∷ sent) accepted
-    asked_stands apdu AckOnly next sent accepted e w = subst (λ b. Stands b plan (next None) (apdu ∷ sent) accepted) e (Acknowledged apdu next sent accepted w)
-    asked_stands apdu (Is wanted) next sent accepted e w =
-        subst (λ b. Stands b plan (Operation apdu (Is wanted) next) (apdu ∷ sent) accepted) e (record { apdu = apdu; older = sent; expect = Is wanted; next = next; last = refl; head = refl; went = w })
-    asked_stands apdu Note next sent accepted e w = subst (λ b. Stands b plan (Operation apdu Note next) (apdu ∷ sent) accepted) e (record { apdu = apdu; older = sent; expect = Note; next = next; last = refl; head = refl; went = w })
+    asked_stands : (place : ℕ) (apdu : List ℕ) (expect : Expect) (next : Option (List ℕ) → Plan) (sent accepted : List (List ℕ)) → awaits_answer expect ≡ has_answer apdu → Went plan sent accepted (Operation place apdu expect next) → Stands (has_answer apdu) plan (sent_of (Operation place apdu expect next)) (apdu ∷ sent) accepted
+    asked_stands place apdu AckOnly next sent accepted e w = subst (λ b. Stands b plan (next None) (apdu ∷ sent) accepted) e (Acknowledged place apdu next sent accepted w)
+    asked_stands place apdu (Is wanted) next sent accepted e w =
+        subst (λ b. Stands b plan (Operation place apdu (Is wanted) next) (apdu ∷ sent) accepted) e (record { apdu = apdu; older = sent; place = place; expect = Is wanted; next = next; last = refl; head = refl; went = w })
+    asked_stands place apdu Note next sent accepted e w = subst (λ b. Stands b plan (Operation place apdu Note next) (apdu ∷ sent) accepted) e (record { apdu = apdu; older = sent; place = place; expect = Note; next = next; last = refl; head = refl; went = w })
 
     after_up : (end : ClientEnd) (session : Session) (apdu : List ℕ) (t : ℕ) → end ≡ Up session → after_send end apdu t ≡ client_asked session apdu t
     unfolding after_send
@@ -113,9 +113,9 @@ module _ (a : ℕ) (address : IndAddr) (IsJob : Plan → Type 0) (device : IndAd
     asks : (n : ℕ) (apdu : List ℕ) → frame_in f.tpdu ≡ Numbered n apdu → IsNext t apdu f.tpdu → Put (Running k (asked_attempt n apdu (client_sent t.end apdu)))
     asks n apdu read q =
         let stands : InPlan t.end plan t.left s.client.sent s.client.accepted = h.stands q.goes_on in
-        let went : Went plan s.client.sent s.client.accepted (Operation apdu q.expect q.next)
+        let went : Went plan s.client.sent s.client.accepted (Operation q.place apdu q.expect q.next)
         = subst (Went plan s.client.sent s.client.accepted) q.head (subst (λ z. InPlan z plan t.left s.client.sent s.client.accepted) q.up stands) in
-        let ok = sendable plan (Operation apdu q.expect q.next) s.client.sent s.client.accepted can went in
+        let ok = sendable plan (Operation q.place apdu q.expect q.next) s.client.sent s.client.accepted can went in
         let up : s.client.end ≡ Up q.session = sym h.end_is ∙ q.up in
         let sent : client_sent s.client.end apdu ≡ Some f.tpdu = ap (λ z. client_sent z apdu) (sym h.end_is) ∙ q.as_sent in
         let P : Option (List ℕ) → Type 0 = λ o. Put (Running k (asked_attempt n apdu o)) in
@@ -124,7 +124,7 @@ module _ (a : ℕ) (address : IndAddr) (IsJob : Plan → Type 0) (device : IndAd
           after = asks_so s apdu (Some f.tpdu);
           is = ap (asks_so s apdu) sent;
           may = (free, ok.0);
-          asks = (plan, job, record { free = ap awaits_nothing up; expect = q.expect; next = q.next; went = went });
+          asks = (plan, job, record { free = ap awaits_nothing up; place = q.place; expect = q.expect; next = q.next; went = went });
           quiet = λ z. absurd (subst (λ y. NotService (Some y)) read z);
           by = record { device = refl; same_me = refl; same_now = refl; echo = refl; coming = refl; joined = refl; flying = λ z. fly_is a address f s f.tpdu same_me named group to refl; pending = λ z. inr its };
           attempt = record {
@@ -135,7 +135,7 @@ module _ (a : ℕ) (address : IndAddr) (IsJob : Plan → Type 0) (device : IndAd
             with_it = subst (IsWith a) (sym (after_up t.end q.session apdu now q.up)) (subst (IsWith a) q.up h.with_it);
             joined = joined;
             stands = λ z. subst (λ y. InPlan y plan (sent_of t.left) (apdu ∷ s.client.sent) s.client.accepted) (sym (after_up t.end q.session apdu now q.up))
-                (subst (λ y. Stands (has_answer apdu) plan (sent_of y) (apdu ∷ s.client.sent) s.client.accepted) (sym q.head) (asked_stands apdu q.expect q.next s.client.sent s.client.accepted ok.1 went));
+                (subst (λ y. Stands (has_answer apdu) plan (sent_of y) (apdu ∷ s.client.sent) s.client.accepted) (sym q.head) (asked_stands q.place apdu q.expect q.next s.client.sent s.client.accepted ok.1 went));
           };
         })
 
@@ -191,7 +191,7 @@ module _ (a : ℕ) (address : IndAddr) (IsJob : Plan → Type 0) (device : IndAd
   put_running (Nak n) k t e h may = replies k t h (Nak n) tt may
   put_running (Numbered n apdu) k t e h may =
       numbered k t h n apdu e
-      (record { owes_nothing = may.owes_nothing; which = elim may.which [ inl q ↦ inl (record { session = q.session; up = q.up; goes_on = q.goes_on; expect = q.expect; next = q.next; head = q.head; as_sent = q.as_sent }) | inr q ↦ inr q ] })
+      (record { owes_nothing = may.owes_nothing; which = elim may.which [ inl q ↦ inl (record { session = q.session; up = q.up; goes_on = q.goes_on; place = q.place; expect = q.expect; next = q.next; head = q.head; as_sent = q.as_sent }) | inr q ↦ inr q ] })
   put_running Other k t e h may = absurd may
 
   put_goes : (x : TransportFrame) (t : Attempts) → frame_in f.tpdu ≡ x → AttemptIs a plan t s.client → MayPut t now f.tpdu x → Put (put_so device plan now t (Some x))

@@ -36,11 +36,12 @@ FlyFits Ended flying = NotConnect flying
 pub record IsAwaited (plan left : Plan) (sent accepted : List (List ℕ)) : Type 0 where
   pub apdu : List ℕ
   pub older : List (List ℕ)
+  pub place : ℕ
   pub expect : Expect
   pub next : Option (List ℕ) → Plan
   pub last : sent ≡ apdu ∷ older
-  pub head : left ≡ Operation apdu expect next
-  pub went : Went plan older accepted (Operation apdu expect next)
+  pub head : left ≡ Operation place apdu expect next
+  pub went : Went plan older accepted (Operation place apdu expect next)
 
 abbrev pub Stands : Bool → Plan → Plan → List (List ℕ) → List (List ℕ) → Type 0
 Stands true plan left sent accepted = IsAwaited plan left sent accepted

@@ -57,7 +57,7 @@ Ends jobs a plan nv = (p : OfDevice jobs a plan) → runs nv ≡ Some p.job.imag
 
 begins_so : (answers : Answering) (plan : Plan) (start end : NonVolatile) → WholeRun answers plan start end → Beginning answers plan start end
 begins_so answers _ _ _ (AtEnd nv) = NotBegun _ nv
-begins_so answers _ _ _ (Goes apdu expect next nv outcome end whole_ suits rest) = Then apdu expect next nv outcome end whole_ suits (begins_so answers (next (answers nv apdu)) (kept_by nv apdu outcome) end rest)
+begins_so answers _ _ _ (Goes place apdu expect next nv outcome end whole_ suits rest) = Then place apdu expect next nv outcome end whole_ suits (begins_so answers (next (answers nv apdu)) (kept_by nv apdu outcome) end rest)
 
 module _ (jobs : List Job) (good : AllByRecursion IsGoodJob jobs) (a : ℕ) (first : NonVolatile) where
   case_on : (plan : Plan) (p : OfDevice jobs a plan) (b : Bool) → p.job.loads ≡ b → (frames : FrameSupport) (start end : NonVolatile) → Case jobs a first start → Beginning (answer_in frames) p.job.plan start end → Case jobs a first end

@@ -43,13 +43,13 @@ awaits_after (Asking p q) t = refl
 awaits_after (Awaiting p) t = refl
 awaits_after Ended t = refl
 
-is_suits : (left : Plan) (got apdu : List ℕ) (expect : Expect) (next : Option (List ℕ) → Plan) → left ≡ Operation apdu expect next → Suits apdu expect (Some got) → suits left got ≡ true
-is_suits left got apdu AckOnly next e h = absurd h
-is_suits left got apdu (Is wanted) next e h = ap (λ p. suits p got) e ∙ (bytes_eq-Decides got wanted).1 h
-is_suits left got apdu Note next e h = ap (λ p. suits p got) e ∙ h
+is_suits : (left : Plan) (got : List ℕ) (place : ℕ) (apdu : List ℕ) (expect : Expect) (next : Option (List ℕ) → Plan) → left ≡ Operation place apdu expect next → Suits apdu expect (Some got) → suits left got ≡ true
+is_suits left got place apdu AckOnly next e h = absurd h
+is_suits left got place apdu (Is wanted) next e h = ap (λ p. suits p got) e ∙ (bytes_eq-Decides got wanted).1 h
+is_suits left got place apdu Note next e h = ap (λ p. suits p got) e ∙ h
 
-followed_is : (left : Plan) (got apdu : List ℕ) (expect : Expect) (next : Option (List ℕ) → Plan) → left ≡ Operation apdu expect next → followed left got ≡ next (Some got)
-followed_is left got apdu expect next e = ap (λ p. followed p got) e
+followed_is : (left : Plan) (got : List ℕ) (place : ℕ) (apdu : List ℕ) (expect : Expect) (next : Option (List ℕ) → Plan) → left ≡ Operation place apdu expect next → followed left got ≡ next (Some got)
+followed_is left got place apdu expect next e = ap (λ p. followed p got) e
 
 last_more : (ans : Texts) (got : List ℕ) → reverse (got ∷ ans) ≡ reverse ans ++ got ∷ []
 last_more ans got = reverse-append (got ∷ []) ans
@@ -71,17 +71,17 @@ spoilt_now plan left sent ans got true e h k later y le r =
     let more : Reaches plan k (reverse ans ++ got ∷ later) y = subst (λ z. Reaches plan k z y) (append_one (reverse ans) got later) r in
     let last : suc h.before ≡ sent = h.last in
     elim (at_most k h.before (omega (arith, le, last))) [
-      | inl few ↦ too_many plan h.before k (reverse ans) later got (Operation h.apdu h.expect h.next) y few h.reaches more
+      | inl few ↦ too_many plan h.before k (reverse ans) later got (Operation h.place h.apdu h.expect h.next) y few h.reaches more
       | inr all ↦
-          (let s : Suits h.apdu h.expect (Some got) = suits_next plan h.before (reverse ans) h.apdu got h.expect h.next later y h.answered h.reaches (subst (λ z. Reaches plan z (reverse ans ++ got ∷ later) y) all more) in
-          let z : true ≡ false = sym (is_suits left got h.apdu h.expect h.next h.head s) ∙ e in cc)
+          (let s : Suits h.apdu h.expect (Some got) = suits_next plan h.before (reverse ans) h.place h.apdu got h.expect h.next later y h.answered h.reaches (subst (λ z. Reaches plan z (reverse ans ++ got ∷ later) y) all more) in
+          let z : true ≡ false = sym (is_suits left got h.place h.apdu h.expect h.next h.head s) ∙ e in cc)
     ]
 
 one_more : (plan left : Plan) (sent : ℕ) (ans : Texts) (got : List ℕ) → suits left got ≡ true → AwaitsOne plan left sent (reverse ans) → Reaches plan sent (reverse ans ++ got ∷ []) (followed left got)
 one_more plan left sent ans got s h =
     subst (λ z. Reaches plan z (reverse ans ++ got ∷ []) (followed left got)) h.last
-    (subst (λ z. Reaches plan (suc h.before) (reverse ans ++ got ∷ []) z) (sym (followed_is left got h.apdu h.expect h.next h.head))
-    (answered_one plan h.before (reverse ans) h.apdu got h.expect h.next (suits_is left got h.apdu h.expect h.next h.head s) h.reaches))
+    (subst (λ z. Reaches plan (suc h.before) (reverse ans ++ got ∷ []) z) (sym (followed_is left got h.place h.apdu h.expect h.next h.head))
+    (answered_one plan h.before (reverse ans) h.place h.apdu got h.expect h.next (suits_is left got h.place h.apdu h.expect h.next h.head s) h.reaches))
 
 answer_count : (plan : Plan) (t : Attempt) (o : Number) (acked now : ℕ) (ans : Texts) (got ack : List ℕ) (b : Bool) → (awaits t.end && suits t.left got) ≡ b → Count plan t o acked ans
     → Count plan (owing (cond {A = Attempt} b (record t { left = followed t.left got }) (record t { closing = true })) now (heard.Answer got ack) ack) o acked (got ∷ ans)

@@ -34,13 +34,14 @@ ExpectedIs Ended n = Unit {0}
 
 pub record AwaitsOne (plan left : Plan) (sent : ℕ) (answers : Texts) : Type 0 where
   pub apdu : List ℕ
+  pub place : ℕ
   pub expect : Expect
   pub next : Option (List ℕ) → Plan
   pub before : ℕ
-  pub head : left ≡ Operation apdu expect next
+  pub head : left ≡ Operation place apdu expect next
   pub answered : awaits_answer expect ≡ true
   pub last : suc before ≡ sent
-  pub reaches : Reaches plan before answers (Operation apdu expect next)
+  pub reaches : Reaches plan before answers (Operation place apdu expect next)
 
 abbrev pub LeftIs : Bool → Plan → Plan → ℕ → Texts → Type 0
 LeftIs true plan left sent answers = AwaitsOne plan left sent answers

@@ -113,12 +113,12 @@ reaches_sendable : (plan : Plan) (k : ℕ) (ans : List (List ℕ)) (left : Plan)
 reaches_sendable plan zero [] left can h = subst IsSendable h can
 reaches_sendable plan zero (x ∷ ans) left can h = absurd h
 reaches_sendable Over (suc k) ans left can h = absurd h
-reaches_sendable (Operation apdu AckOnly next) (suc k) [] left can h = reaches_sendable (next None) k [] left (can.2 None) h
-reaches_sendable (Operation apdu AckOnly next) (suc k) (x ∷ ans) left can h = reaches_sendable (next None) k (x ∷ ans) left (can.2 None) h
-reaches_sendable (Operation apdu (Is wanted) next) (suc k) [] left can h = absurd h
-reaches_sendable (Operation apdu (Is wanted) next) (suc k) (x ∷ ans) left can h = reaches_sendable (next (Some x)) k ans left (can.2 (Some x)) h.1
-reaches_sendable (Operation apdu Note next) (suc k) [] left can h = absurd h
-reaches_sendable (Operation apdu Note next) (suc k) (x ∷ ans) left can h = reaches_sendable (next (Some x)) k ans left (can.2 (Some x)) h.1
+reaches_sendable (Operation place apdu AckOnly next) (suc k) [] left can h = reaches_sendable (next None) k [] left (can.2 None) h
+reaches_sendable (Operation place apdu AckOnly next) (suc k) (x ∷ ans) left can h = reaches_sendable (next None) k (x ∷ ans) left (can.2 None) h
+reaches_sendable (Operation place apdu (Is wanted) next) (suc k) [] left can h = absurd h
+reaches_sendable (Operation place apdu (Is wanted) next) (suc k) (x ∷ ans) left can h = reaches_sendable (next (Some x)) k ans left (can.2 (Some x)) h.1
+reaches_sendable (Operation place apdu Note next) (suc k) [] left can h = absurd h
+reaches_sendable (Operation place apdu Note next) (suc k) (x ∷ ans) left can h = reaches_sendable (next (Some x)) k ans left (can.2 (Some x)) h.1
 
 sent_data : (p : Session) (apdu octets : List ℕ) (end : ClientEnd) → end ≡ Up p → client_sent end apdu ≡ Some octets → octets ≡ numbered_data p.number apdu
 unfolding client_sent
@@ -128,13 +128,13 @@ after_up : (end : ClientEnd) (p : Session) (apdu : List ℕ) (t : ℕ) → end �
 unfolding after_send
 after_up end p apdu t e = ap (λ z. after_send z apdu t) e
 
-asked_left : (plan left : Plan) (sent : ℕ) (ans : List (List ℕ)) (apdu : List ℕ) (expect : Expect) (next : Option (List ℕ) → Plan) → left ≡ Operation apdu expect next → awaits_answer expect ≡ has_answer apdu → Reaches plan sent ans left → LeftIs (has_answer apdu) plan (sent_of left) (suc sent) ans
-asked_left plan left sent ans apdu AckOnly next e w h =
-    subst (λ b. LeftIs b plan (sent_of left) (suc sent) ans) w (subst (λ z. Reaches plan (suc sent) ans (sent_of z)) (sym e) (acknowledged_one plan sent ans apdu next (subst (Reaches plan sent ans) e h)))
-asked_left plan left sent ans apdu (Is wanted) next e w h =
-    subst (λ b. LeftIs b plan (sent_of left) (suc sent) ans) w (record { apdu = apdu; expect = Is wanted; next = next; before = sent; head = ap sent_of e; answered = refl; last = refl; reaches = subst (Reaches plan sent ans) e h })
-asked_left plan left sent ans apdu Note next e w h =
-    subst (λ b. LeftIs b plan (sent_of left) (suc sent) ans) w (record { apdu = apdu; expect = Note; next = next; before = sent; head = ap sent_of e; answered = refl; last = refl; reaches = subst (Reaches plan sent ans) e h })
+asked_left : (plan left : Plan) (sent : ℕ) (ans : List (List ℕ)) (place : ℕ) (apdu : List ℕ) (expect : Expect) (next : Option (List ℕ) → Plan) → left ≡ Operation place apdu expect next → awaits_answer expect ≡ has_answer apdu → Reaches plan sent ans left → LeftIs (has_answer apdu) plan (sent_of left) (suc sent) ans
+asked_left plan left sent ans place apdu AckOnly next e w h =
+    subst (λ b. LeftIs b plan (sent_of left) (suc sent) ans) w (subst (λ z. Reaches plan (suc sent) ans (sent_of z)) (sym e) (acknowledged_one plan sent ans place apdu next (subst (Reaches plan sent ans) e h)))
+asked_left plan left sent ans place apdu (Is wanted) next e w h =
+    subst (λ b. LeftIs b plan (sent_of left) (suc sent) ans) w (record { apdu = apdu; place = place; expect = Is wanted; next = next; before = sent; head = ap sent_of e; answered = refl; last = refl; reaches = subst (Reaches plan sent ans) e h })
+asked_left plan left sent ans place apdu Note next e w h =
+    subst (λ b. LeftIs b plan (sent_of left) (suc sent) ans) w (record { apdu = apdu; place = place; expect = Note; next = next; before = sent; head = ap sent_of e; answered = refl; last = refl; reaches = subst (Reaches plan sent ans) e h })
 
 number_same : (n m : ℕ) (x y : List ℕ) → Numbered n x ≡ Numbered m y → n ≡ m
 number_same n m x y e = cc
@@ -150,14 +150,14 @@ asks_count plan t o acked now n ans apdu octets can read q h =
     let again : frame_in (numbered_data p.number apdu) ≡ Numbered p.number apdu = numbered_read p.number apdu number.2 is_apdu in
     let same : n ≡ p.number = number_same n p.number apdu apdu (sym read ∙ ap frame_in octets_are ∙ again) in
     let left : Reaches plan h.sent (reverse ans) t.left = subst (λ z. LeftIs (awaits z) plan t.left h.sent (reverse ans)) q.up (h.left_is q.goes_on) in
-    let ok : IsSendable (Operation apdu q.expect q.next) = subst IsSendable q.head (reaches_sendable plan h.sent (reverse ans) t.left can left) in
+    let ok : IsSendable (Operation q.place apdu q.expect q.next) = subst IsSendable q.head (reaches_sendable plan h.sent (reverse ans) t.left can left) in
     let end : after_send t.end apdu now ≡ client_asked p apdu now = after_up t.end p apdu now q.up in
     record {
       sent = suc h.sent;
       number_is = subst (λ z. NumberIs z (Outstanding n) acked (suc h.sent)) (sym end) (ap (λ z. Outstanding z) same, ap (λ z. suc z) number.1, number.2, apdu, again);
       expected_is = subst (λ z. ExpectedIs z (length ans)) (sym end) expected;
       plain = tt;
-      left_is = λ k. subst (λ z. LeftIs (awaits z) plan (sent_of t.left) (suc h.sent) (reverse ans)) (sym end) (asked_left plan t.left h.sent (reverse ans) apdu q.expect q.next q.head ok.1 left);
+      left_is = λ k. subst (λ z. LeftIs (awaits z) plan (sent_of t.left) (suc h.sent) (reverse ans)) (sym end) (asked_left plan t.left h.sent (reverse ans) q.place apdu q.expect q.next q.head ok.1 left);
       spoilt = λ k. absurd (let z : true ≡ false = sym k ∙ q.goes_on in cc);
     }
 

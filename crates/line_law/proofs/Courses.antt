@@ -102,13 +102,13 @@ done_by plan left (Asking p q) o acked sent ans n h r = by_awaits q.awaits h whe
       let all : suc acked ≡ sent = n.1 in
       let same : acked ≡ k.before = omega arith in
       let e = same_left plan k.before (reverse ans) _ Over k.reaches (subst (λ z. Reaches plan z (reverse ans) Over) same r) in
-      absurd (let z : Operation k.apdu k.expect k.next ≡ Over = e in cc)
+      absurd (let z : Operation k.place k.apdu k.expect k.next ≡ Over = e in cc)
   by_awaits false k = absurd (no_further plan acked (reverse ans) Over left tt r (subst (λ z. Reaches plan z (reverse ans) left) (sym n.1) k))
 done_by plan left (Awaiting p) o acked sent ans n h r =
     let last : suc h.before ≡ sent = h.last in
     let all : acked ≡ sent = n.1 in
     let same : acked ≡ suc h.before = omega arith in
-    absurd (no_further plan h.before (reverse ans) (Operation h.apdu h.expect h.next) Over h.answered h.reaches (subst (λ z. Reaches plan z (reverse ans) Over) same r))
+    absurd (no_further plan h.before (reverse ans) (Operation h.place h.apdu h.expect h.next) Over h.answered h.reaches (subst (λ z. Reaches plan z (reverse ans) Over) same r))
 done_by plan left Ended o acked sent ans n h r = absurd n
 
 acked_least : (end : ClientEnd) (o : Number) (acked sent : ℕ) → NumberIs end o acked sent → acked ≤ sent

@@ -20,14 +20,14 @@ use Rattle.line_law.proofs.Attempting.{NotConnect, FlyFits, IsAwaited, Stands, I
 
 -- ---- an answer that suits
 
-pub suits_is : (left : Plan) (got apdu : List ℕ) (expect : Expect) (next : Option (List ℕ) → Plan) → left ≡ Operation apdu expect next → suits left got ≡ true → Suits apdu expect (Some got)
-suits_is left got apdu AckOnly next e h = absurd (let z : suits (Operation apdu AckOnly next) got ≡ true = ap (λ p. suits p got) (sym e) ∙ h in cc)
-suits_is left got apdu (Is wanted) next e h = let z : suits (Operation apdu (Is wanted) next) got ≡ true = ap (λ p. suits p got) (sym e) ∙ h in (bytes_eq-Decides got wanted).0 z
-suits_is left got apdu Note next e h = ap (λ p. suits p got) (sym e) ∙ h
+pub suits_is : (left : Plan) (got : List ℕ) (place : ℕ) (apdu : List ℕ) (expect : Expect) (next : Option (List ℕ) → Plan) → left ≡ Operation place apdu expect next → suits left got ≡ true → Suits apdu expect (Some got)
+suits_is left got place apdu AckOnly next e h = absurd (let z : suits (Operation place apdu AckOnly next) got ≡ true = ap (λ p. suits p got) (sym e) ∙ h in cc)
+suits_is left got place apdu (Is wanted) next e h = let z : suits (Operation place apdu (Is wanted) next) got ≡ true = ap (λ p. suits p got) (sym e) ∙ h in (bytes_eq-Decides got wanted).0 z
+suits_is left got place apdu Note next e h = ap (λ p. suits p got) (sym e) ∙ h
 
 through : (plan left : Plan) (sent accepted : List (List ℕ)) (got : List ℕ) → suits left got ≡ true → IsAwaited plan left sent accepted → Went plan sent (got ∷ accepted) (followed left got)
 through plan left sent accepted got s h =
-    let one : Went plan (h.apdu ∷ h.older) (got ∷ accepted) (h.next (Some got)) = Answered h.apdu h.expect h.next got h.older accepted h.went (suits_is left got h.apdu h.expect h.next h.head s) in
+    let one : Went plan (h.apdu ∷ h.older) (got ∷ accepted) (h.next (Some got)) = Answered h.place h.apdu h.expect h.next got h.older accepted h.went (suits_is left got h.place h.apdu h.expect h.next h.head s) in
     subst (λ z. Went plan z (got ∷ accepted) (followed left got)) (sym h.last) (subst (λ z. Went plan (h.apdu ∷ h.older) (got ∷ accepted) (followed z got)) (sym h.head) one)
 
 -- ---- what the end is then

@@ -83,7 +83,7 @@ allowed k u now octets Disconnect h = tt
 allowed k u now octets (Ack j) h = tt
 allowed k u now octets (Nak j) h = tt
 allowed k u now octets (Numbered j apdu) h =
-    record { owes_nothing = h.owes_nothing; which = elim h.which [ inl q ↦ inl (record { session = q.session; up = q.up; goes_on = q.goes_on; expect = q.expect; next = q.next; head = q.head; as_sent = q.as_sent }) | inr due ↦ inr due ] }
+    record { owes_nothing = h.owes_nothing; which = elim h.which [ inl q ↦ inl (record { session = q.session; up = q.up; goes_on = q.goes_on; place = q.place; expect = q.expect; next = q.next; head = q.head; as_sent = q.as_sent }) | inr due ↦ inr due ] }
 allowed k u now octets Other h = h
 
 abbrev pub Free : Attempts → Type 0

@@ -73,7 +73,7 @@ writes = (ack_written 4, (tt, (tt, (request_written 2 (0xC2 ∷ []), (ack_writte
 
 asks : AsksRightly (load ∷ []) [] told_done (placed (begin nearly) loads)
 unfolding datagram_in ldata_in gateway_took frame_in device_took device_after device_answered after_answer apdu_in tpdu_in service_in after_entry deed client_sent after_send client_took client_after client_expired after_overdue after_confirmed
-asks = record { acknowledges = acknowledges; each = (record { asks = tt; prompt = λ u e. refl }, (record { asks = tt; prompt = λ u e. refl }, (record { asks = tt; prompt = λ u e. refl }, (record { asks = record { frame = to_device (0xC2 ∷ []); reads = refl; request = refl; place = record { acknowledged = refl; has_confirmation = refl }; why = inr (record { k = 1; job = load; there = refl; worker = 1; since = 4; held = refl; alone = refl; to = refl; may = ([], refl) }) }; prompt = λ u e. refl }, (record { asks = tt; prompt = λ u e. refl }, (record { asks = tt; prompt = λ u e. refl }, (record { asks = tt; prompt = λ u e. refl }, (record { asks = tt; prompt = λ u e. refl }, (record { asks = tt; prompt = λ u e. refl }, (record { asks = tt; prompt = λ u e. refl }, (record { asks = tt; prompt = λ u e. refl }, (record { asks = record { frame = to_device (0x43 ∷ completion); reads = refl; request = refl; place = record { acknowledged = refl; has_confirmation = refl }; why = inr (record { k = 1; job = load; there = refl; worker = 1; since = 4; held = refl; alone = refl; to = refl; may = record { owes_nothing = refl; which = inl (record { session = record { partner = device; expected = 0; number = 0; last = 0 }; up = refl; goes_on = refl; expect = Is (0x03 ∷ 0xD6 ∷ 4 ∷ 5 ∷ 0x10 ∷ 1 ∷ 1 ∷ []); next = λ answer. Over; head = refl; as_sent = refl }) } }) }; prompt = λ u e. refl }, (record { asks = tt; prompt = λ u e. refl }, (record { asks = tt; prompt = λ u e. refl }, (record { asks = tt; prompt = λ u e. refl }, (record { asks = record { frame = to_device (0x80 ∷ []); reads = refl; request = refl; place = record { acknowledged = refl; has_confirmation = refl }; why = inr (record { k = 1; job = load; there = refl; worker = 1; since = 4; held = refl; alone = refl; to = refl; may = omega arith }) }; prompt = λ u e. refl }, (record { asks = tt; prompt = λ u e. refl }, (record { asks = tt; prompt = λ u e. refl }, (record { asks = tt; prompt = λ u e. refl }, tt))))))))))))))))))) }
+asks = record { acknowledges = acknowledges; each = (record { asks = tt; prompt = λ u e. refl }, (record { asks = tt; prompt = λ u e. refl }, (record { asks = tt; prompt = λ u e. refl }, (record { asks = record { frame = to_device (0xC2 ∷ []); reads = refl; request = refl; place = record { acknowledged = refl; has_confirmation = refl }; why = inr (record { k = 1; job = load; there = refl; worker = 1; since = 4; held = refl; alone = refl; to = refl; may = ([], refl) }) }; prompt = λ u e. refl }, (record { asks = tt; prompt = λ u e. refl }, (record { asks = tt; prompt = λ u e. refl }, (record { asks = tt; prompt = λ u e. refl }, (record { asks = tt; prompt = λ u e. refl }, (record { asks = tt; prompt = λ u e. refl }, (record { asks = tt; prompt = λ u e. refl }, (record { asks = tt; prompt = λ u e. refl }, (record { asks = record { frame = to_device (0x43 ∷ completion); reads = refl; request = refl; place = record { acknowledged = refl; has_confirmation = refl }; why = inr (record { k = 1; job = load; there = refl; worker = 1; since = 4; held = refl; alone = refl; to = refl; may = record { owes_nothing = refl; which = inl (record { session = record { partner = device; expected = 0; number = 0; last = 0 }; up = refl; goes_on = refl; place = 0; expect = Is (0x03 ∷ 0xD6 ∷ 4 ∷ 5 ∷ 0x10 ∷ 1 ∷ 1 ∷ []); next = λ answer. Over; head = refl; as_sent = refl }) } }) }; prompt = λ u e. refl }, (record { asks = tt; prompt = λ u e. refl }, (record { asks = tt; prompt = λ u e. refl }, (record { asks = tt; prompt = λ u e. refl }, (record { asks = record { frame = to_device (0x80 ∷ []); reads = refl; request = refl; place = record { acknowledged = refl; has_confirmation = refl }; why = inr (record { k = 1; job = load; there = refl; worker = 1; since = 4; held = refl; alone = refl; to = refl; may = omega arith }) }; prompt = λ u e. refl }, (record { asks = tt; prompt = λ u e. refl }, (record { asks = tt; prompt = λ u e. refl }, (record { asks = tt; prompt = λ u e. refl }, tt))))))))))))))))))) }
 
 pub disciplined : IsDisciplined (load ∷ []) [] 33 (placed (begin nearly) loads) told_done
 disciplined = record { form = is_log; alone = alone; truly = truly; renews = renews; sends = sends; writes = writes; asks = asks }

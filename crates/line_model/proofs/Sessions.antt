@@ -52,7 +52,7 @@ truly kept = ((refl, refl), (tt, tt))
 
 pub refused : (kept : NonVolatile) → ToldTruly (other_job ∷ []) [] (placed (begin kept) whole) told_refused
 unfolding datagram_in ldata_in gateway_took frame_in device_took device_after device_answered after_answer apdu_in tpdu_in service_in after_entry deed
-refused kept = (record { n = 1; judged = refl; later = []; before = []; taken = refl; why = inl (record { last = refl; left = other_job.plan; so_far = refl; differs = (refl, λ e. cc) }) }, (tt, tt))
+refused kept = (record { n = 1; judged = refl; later = []; before = []; taken = refl; why = inl (record { earlier = 0; last = refl; left = other_job.plan; so_far = refl; differs = (refl, λ e. cc, refl) }) }, (tt, tt))
 
 renews : (kept : NonVolatile) → RenewsRightly (entries (placed (begin kept) whole))
 unfolding datagram_in ldata_in gateway_took frame_in device_took device_after device_answered after_answer apdu_in tpdu_in service_in after_entry deed
@@ -72,7 +72,7 @@ writes kept = (ack_written 4, (tt, (tt, (request_written 2 (0xC2 ∷ []), (ack_w
 
 asks : (kept : NonVolatile) → AsksRightly (job ∷ []) [] told_done (placed (begin kept) whole)
 unfolding datagram_in ldata_in gateway_took frame_in device_took device_after device_answered after_answer apdu_in tpdu_in service_in after_entry deed client_sent after_send client_took client_after client_expired after_overdue after_confirmed
-asks kept = record { acknowledges = acknowledges kept; each = (record { asks = tt; prompt = λ u e. refl }, (record { asks = tt; prompt = λ u e. refl }, (record { asks = tt; prompt = λ u e. refl }, (record { asks = record { frame = to_device (0xC2 ∷ []); reads = refl; request = refl; place = record { acknowledged = refl; has_confirmation = refl }; why = inr (record { k = 1; job = job; there = refl; worker = 1; since = 4; held = refl; alone = refl; to = refl; may = ([], refl) }) }; prompt = λ u e. refl }, (record { asks = tt; prompt = λ u e. refl }, (record { asks = tt; prompt = λ u e. refl }, (record { asks = tt; prompt = λ u e. refl }, (record { asks = tt; prompt = λ u e. refl }, (record { asks = tt; prompt = λ u e. refl }, (record { asks = tt; prompt = λ u e. refl }, (record { asks = tt; prompt = λ u e. refl }, (record { asks = record { frame = to_device (0x43 ∷ 0x00 ∷ []); reads = refl; request = refl; place = record { acknowledged = refl; has_confirmation = refl }; why = inr (record { k = 1; job = job; there = refl; worker = 1; since = 4; held = refl; alone = refl; to = refl; may = record { owes_nothing = refl; which = inl (record { session = record { partner = device; expected = 0; number = 0; last = 0 }; up = refl; goes_on = refl; expect = Is (0x03 ∷ 0x40 ∷ 0x07 ∷ 0xB0 ∷ []); next = λ answer. Over; head = refl; as_sent = refl }) } }) }; prompt = λ u e. refl }, (record { asks = tt; prompt = λ u e. refl }, (record { asks = tt; prompt = λ u e. refl }, (record { asks = tt; prompt = λ u e. refl }, (record { asks = record { frame = to_device (0x80 ∷ []); reads = refl; request = refl; place = record { acknowledged = refl; has_confirmation = refl }; why = inr (record { k = 1; job = job; there = refl; worker = 1; since = 4; held = refl; alone = refl; to = refl; may = omega arith }) }; prompt = λ u e. refl }, (record { asks = tt; prompt = λ u e. refl }, (record { asks = tt; prompt = λ u e. refl }, (record { asks = tt; prompt = λ u e. refl }, tt))))))))))))))))))) }
+asks kept = record { acknowledges = acknowledges kept; each = (record { asks = tt; prompt = λ u e. refl }, (record { asks = tt; prompt = λ u e. refl }, (record { asks = tt; prompt = λ u e. refl }, (record { asks = record { frame = to_device (0xC2 ∷ []); reads = refl; request = refl; place = record { acknowledged = refl; has_confirmation = refl }; why = inr (record { k = 1; job = job; there = refl; worker = 1; since = 4; held = refl; alone = refl; to = refl; may = ([], refl) }) }; prompt = λ u e. refl }, (record { asks = tt; prompt = λ u e. refl }, (record { asks = tt; prompt = λ u e. refl }, (record { asks = tt; prompt = λ u e. refl }, (record { asks = tt; prompt = λ u e. refl }, (record { asks = tt; prompt = λ u e. refl }, (record { asks = tt; prompt = λ u e. refl }, (record { asks = tt; prompt = λ u e. refl }, (record { asks = record { frame = to_device (0x43 ∷ 0x00 ∷ []); reads = refl; request = refl; place = record { acknowledged = refl; has_confirmation = refl }; why = inr (record { k = 1; job = job; there = refl; worker = 1; since = 4; held = refl; alone = refl; to = refl; may = record { owes_nothing = refl; which = inl (record { session = record { partner = device; expected = 0; number = 0; last = 0 }; up = refl; goes_on = refl; place = 0; expect = Is (0x03 ∷ 0x40 ∷ 0x07 ∷ 0xB0 ∷ []); next = λ answer. Over; head = refl; as_sent = refl }) } }) }; prompt = λ u e. refl }, (record { asks = tt; prompt = λ u e. refl }, (record { asks = tt; prompt = λ u e. refl }, (record { asks = tt; prompt = λ u e. refl }, (record { asks = record { frame = to_device (0x80 ∷ []); reads = refl; request = refl; place = record { acknowledged = refl; has_confirmation = refl }; why = inr (record { k = 1; job = job; there = refl; worker = 1; since = 4; held = refl; alone = refl; to = refl; may = omega arith }) }; prompt = λ u e. refl }, (record { asks = tt; prompt = λ u e. refl }, (record { asks = tt; prompt = λ u e. refl }, (record { asks = tt; prompt = λ u e. refl }, tt))))))))))))))))))) }
 
 pub disciplined : (kept : NonVolatile) → IsDisciplined (job ∷ []) [] 33 (placed (begin kept) whole) told_done
 disciplined kept = record { form = is_log kept; alone = alone; truly = truly kept; renews = renews kept; sends = sends kept; writes = writes kept; asks = asks kept }

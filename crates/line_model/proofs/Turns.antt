@@ -84,7 +84,7 @@ polls kept = record {
 can_send : (kept : NonVolatile) → (NextIsSending (attempts_of job 4 11 (placed (begin kept) connected)) 0 → ¬ HasPlace (channel (entries (placed (begin kept) connected)))) → ⊥
 unfolding datagram_in ldata_in gateway_took frame_in device_took device_after device_answered after_answer apdu_in tpdu_in service_in after_entry deed after_confirmed client_sent after_send client_took client_after client_expired after_overdue
 can_send kept blocked =
-    blocked (refl, ToAsk (3 ∷ 0 ∷ []) (0x43 ∷ 0 ∷ []) (record { owes_nothing = refl; which = inl (record { session = _; up = refl; goes_on = refl; expect = _; next = _; head = refl; as_sent = refl }) }))
+    blocked (refl, ToAsk (3 ∷ 0 ∷ []) (0x43 ∷ 0 ∷ []) (record { owes_nothing = refl; which = inl (record { session = _; up = refl; goes_on = refl; place = _; expect = _; next = _; head = refl; as_sent = refl }) }))
     (record { acknowledged = refl; has_confirmation = refl })
 
 pub goes_on : (kept : NonVolatile) → TurnWaits (job ∷ []) [] told_taken (placed (begin kept) connected) 11 0 1 0 → ⊥

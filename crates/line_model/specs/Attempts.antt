@@ -41,7 +41,7 @@ first device plan = record { end = Asked device; left = plan; owed = []; flying 
 
 -- A T_ACK or T_NAK begins the wait for an answer anew. An operation without answer is over for the plan once it is sent
 abbrev pub sent_of : Plan → Plan
-sent_of (Asks apdu AckOnly next) = next None
+sent_of (Asks place apdu AckOnly next) = next None
 sent_of plan = plan
 
 abbrev pub sends_numbered : Attempt → List ℕ → ℕ → Option (List ℕ) → Attempt
@@ -142,9 +142,10 @@ pub record IsNext (a : Attempt) (apdu tpdu : List ℕ) : Type 0 where
   pub session : Session
   pub up : a.end ≡ Up session
   pub goes_on : a.closing ≡ false
+  pub place : ℕ
   pub expect : Expect
   pub next : Option (List ℕ) → Plan
-  pub head : a.left ≡ Asks apdu expect next
+  pub head : a.left ≡ Asks place apdu expect next
   pub as_sent : client_sent a.end apdu ≡ Some tpdu
 
 -- the outstanding operation again, whose wait has passed

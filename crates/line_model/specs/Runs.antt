@@ -77,7 +77,7 @@ whole = Up 0 ∷ ack 4 ∷ Down 0 ∷ Down 1 ∷ Bus [] ∷ Up 0 ∷ tunnelled 1
 
 -- the plan that reads the descriptor, a job of it, and what is told
 abbrev pub reading : Plan
-reading = Asks (3 ∷ 0 ∷ []) (Is (0x03 ∷ 0x40 ∷ 0x07 ∷ 0xB0 ∷ [])) (λ answer. Over)
+reading = Asks 0 (3 ∷ 0 ∷ []) (Is (0x03 ∷ 0x40 ∷ 0x07 ∷ 0xB0 ∷ [])) (λ answer. Over)
 
 abbrev pub job : Job
 job = record { device = device; image = record { addr = []; assoc = []; objs = []; params = [] }; plan = reading; loads = false }
@@ -93,7 +93,7 @@ abbrev pub other_mask : List ℕ
 other_mask = 0x03 ∷ 0x40 ∷ 0x07 ∷ 0x05 ∷ []
 
 abbrev pub other_job : Job
-other_job = record job { plan = Asks (3 ∷ 0 ∷ []) (Is other_mask) (λ answer. Over) }
+other_job = record job { plan = Asks 0 (3 ∷ 0 ∷ []) (Is other_mask) (λ answer. Over) }
 
 abbrev pub told_refused : List LogEntry
 told_refused = record { at = 33; worker = 1; what = Refused 1 0 (0x03 ∷ 0x40 ∷ 0x07 ∷ 0xB0 ∷ []) other_mask } ∷ told_taken
@@ -115,7 +115,7 @@ abbrev pub completion : List ℕ
 completion = 0xD7 ∷ 4 ∷ 5 ∷ 0x10 ∷ 1 ∷ 2 ∷ 0 ∷ 0 ∷ 0 ∷ 0 ∷ 0 ∷ 0 ∷ 0 ∷ 0 ∷ 0 ∷ []
 
 abbrev pub completing : Plan
-completing = Asks (3 ∷ completion) (Is (0x03 ∷ 0xD6 ∷ 4 ∷ 5 ∷ 0x10 ∷ 1 ∷ 1 ∷ [])) (λ answer. Over)
+completing = Asks 0 (3 ∷ completion) (Is (0x03 ∷ 0xD6 ∷ 4 ∷ 5 ∷ 0x10 ∷ 1 ∷ 1 ∷ [])) (λ answer. Over)
 
 abbrev pub load : Job
 load = record job { plan = completing; loads = true }

@@ -18,7 +18,7 @@ use Rattle.line_model.specs.Record.{Placed}
 use Rattle.line_model.specs.ClientView.{Loses}
 use Rattle.line_model.specs.Moments.{Moment, moments, between, put_frame, confirmation_in, stretches, course, session, Next, number, acknowledged, answers, services}
 use Rattle.line_model.specs.Log.{Job, JobState, Untaken, Held, Over as Ended, job_of, turn_of, state_of, turn_place}
-use Rattle.line_model.specs.Progress.{Reaches, Differs}
+use Rattle.line_model.specs.Progress.{Reaches, last_of, Differs}
 use Rattle.line_model.specs.Signs.{Every, IsntConfirmation, SignsHold}
 
 -- ---- a session of a job: the last T_Connect to its device that was put since the job was taken, and what came after it
@@ -39,23 +39,21 @@ WentThrough device plan s = Reaches plan (acknowledged device s) (reverse (answe
 
 -- ---- refused
 
--- what was sent last is operation `op`, counted from 0
-abbrev pub IsLastSent : ℕ → ℕ → List Moment → Type 0
-IsLastSent device op s = length (services device s) ≡ suc op
-
--- the answers before were those that the plan expects, the operation sent last expects another, and this one isn't it
+-- so many operations were sent before the one sent last; their answers were those that the plan expects, and the one sent last is operation `op`, which
+-- expects another answer, and this one isn't it
 pub record AnsweredWrong (device : ℕ) (plan : Plan) (op : ℕ) (got expected : List ℕ) (before : List (List ℕ)) (s : List Moment) : Type 0 where
-  pub last : IsLastSent device op s
+  pub earlier : ℕ
+  pub last : length (services device s) ≡ suc earlier
   pub left : Plan
-  pub so_far : Reaches plan op (reverse before) left
-  pub differs : Differs left got expected
+  pub so_far : Reaches plan earlier (reverse before) left
+  pub differs : Differs left op got expected
 
 -- no answer was awaited: those before are all that the operations sent so far expect; the operation is the one sent last, 0 where none was
 pub record Unawaited (device : ℕ) (plan : Plan) (op : ℕ) (expected : List ℕ) (before : List (List ℕ)) (s : List Moment) : Type 0 where
   pub empty : expected ≡ []
   pub left : Plan
   pub so_far : Reaches plan (length (services device s)) (reverse before) left
-  pub last : op ≡ length (services device s) - 1
+  pub last : op ≡ last_of 0 plan (length (services device s)) (reverse before)
 
 -- an answer is judged once the operation sent last is acknowledged
 pub record IsRefused (device : ℕ) (plan : Plan) (op : ℕ) (got expected : List ℕ) (s : List Moment) : Type 0 where

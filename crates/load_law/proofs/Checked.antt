@@ -172,16 +172,16 @@ module _ (IsCheck : Plan → Type 0) (checks : (plan : Plan) → IsCheck plan �
   asks_settled w b apdu (Some tpdu) h q (plan, check, may) =
       let o : Seen = seen_of w.device b.delivered b.given in
       let over : AllOver w.client.sent w.client.accepted b.asked o
-      = settled_over w.me b.asked (transport_if w.flying) (items w) o w.client.end w.client.joined w.client.pending w.client.owed w.client.sent w.client.accepted plan (Operation apdu may.expect may.next) check q h.inv.phase may.free may.went in
-      let went : Went plan b.asked w.client.accepted (Operation apdu may.expect may.next) = subst (λ (z : Texts). Went plan z w.client.accepted (Operation apdu may.expect may.next)) (sym over.sent_is) may.went in
-      let through : Went plan b.delivered b.given (Operation apdu may.expect may.next)
-      = subst (λ (z : Texts). Went plan b.delivered z (Operation apdu may.expect may.next)) (sym over.given_is) (subst (λ (z : Texts). Went plan z w.client.accepted (Operation apdu may.expect may.next)) q.quiet went) in
-      let began : q.start ≡ first = sym (began_so plan (Operation apdu may.expect may.next) b.delivered b.given q.start first check through q.trail) in
+      = settled_over w.me b.asked (transport_if w.flying) (items w) o w.client.end w.client.joined w.client.pending w.client.owed w.client.sent w.client.accepted plan (Operation may.place apdu may.expect may.next) check q h.inv.phase may.free may.went in
+      let went : Went plan b.asked w.client.accepted (Operation may.place apdu may.expect may.next) = subst (λ (z : Texts). Went plan z w.client.accepted (Operation may.place apdu may.expect may.next)) (sym over.sent_is) may.went in
+      let through : Went plan b.delivered b.given (Operation may.place apdu may.expect may.next)
+      = subst (λ (z : Texts). Went plan b.delivered z (Operation may.place apdu may.expect may.next)) (sym over.given_is) (subst (λ (z : Texts). Went plan z w.client.accepted (Operation may.place apdu may.expect may.next)) q.quiet went) in
+      let began : q.start ≡ first = sym (began_so plan (Operation may.place apdu may.expect may.next) b.delivered b.given q.start first check through q.trail) in
       inr (record {
         same_frames = q.same_frames;
         case = q.kept;
         holds = tt;
-        in_step = (record { plan = plan; job = check; expect = may.expect; next = may.next; accepted = w.client.accepted; went = went }, λ len. over.given_is);
+        in_step = (record { plan = plan; job = check; place = may.place; expect = may.expect; next = may.next; accepted = w.client.accepted; went = went }, λ len. over.given_is);
         start = q.start;
         latest = first;
         began = began;

@@ -66,19 +66,19 @@ module _ (IsJob : Plan → Type 0) (plan : Plan) (job : IsJob plan) (me : IndAdd
       (kept : NonVolatile) (values : List (Option Value)) (last echo : Option Ldata) (p h : ℕ) (sent accepted : Texts) → p < 16 → h < 16 → Went plan sent accepted rest → IsSendable rest → AnswersAll (answers_of d) rest kept → AllFit d.frames (answers_of d) rest kept
       → EndsDone IsJob plan (Up kept values last echo p h sent accepted) (operations (answers_of d) rest kept)
 
-  without_one : (apdu : List ℕ) (next : Option (List ℕ) → Plan) (kept : NonVolatile) (values : List (Option Value)) (last echo : Option Ldata) (p h : ℕ) (sent accepted : Texts) → p < 16 → h < 16 → Went plan sent accepted (Operation apdu AckOnly next) → IsApdu apdu
+  without_one : (place : ℕ) (apdu : List ℕ) (next : Option (List ℕ) → Plan) (kept : NonVolatile) (values : List (Option Value)) (last echo : Option Ldata) (p h : ℕ) (sent accepted : Texts) → p < 16 → h < 16 → Went plan sent accepted (Operation place apdu AckOnly next) → IsApdu apdu
       → FitsInto d.frames apdu → has_answer apdu ≡ false → answers_of d kept apdu ≡ None → (rest : List Event) → ((values : List (Option Value)) (last echo : Option Ldata) → EndsDone IsJob plan (Up (whole kept (effect_in apdu)) values last echo (next_number p) h (apdu ∷ sent) accepted) rest)
       → EndsDone IsJob plan (Up kept values last echo p h sent accepted) (rest ++ acknowledged apdu)
-  without_one apdu next kept values last echo p h sent accepted small tiny went is fits a n rest more =
+  without_one place apdu next kept values last echo p h sent accepted small tiny went is fits a n rest more =
       let g = goes_without me d t kept values last echo p h sent accepted apdu small is fits a n in
       then_done IsJob plan (Up kept values last echo p h sent accepted) rest (acknowledged apdu) (legal_without me d t kept values last echo p h sent accepted apdu small is fits)
-      (tt, (tt, (tt, (tt, ((plan, job, record { free = refl; expect = AckOnly; next = next; went = went }), tt)))))
+      (tt, (tt, (tt, (tt, ((plan, job, record { free = refl; place = place; expect = AckOnly; next = next; went = went }), tt)))))
       (subst (λ (w : World). EndsDone IsJob plan w rest) (sym g.3) (more g.0 g.1 g.2))
 
-  with_one : (apdu v : List ℕ) (expect : Expect) (next : Option (List ℕ) → Plan) (kept : NonVolatile) (values : List (Option Value)) (last echo : Option Ldata) (p h : ℕ) (sent accepted : Texts) → p < 16 → h < 16 → Went plan sent accepted (Operation apdu expect next) → IsApdu apdu
+  with_one : (place : ℕ) (apdu v : List ℕ) (expect : Expect) (next : Option (List ℕ) → Plan) (kept : NonVolatile) (values : List (Option Value)) (last echo : Option Ldata) (p h : ℕ) (sent accepted : Texts) → p < 16 → h < 16 → Went plan sent accepted (Operation place apdu expect next) → IsApdu apdu
       → FitsInto d.frames apdu → has_answer apdu ≡ true → answers_of d kept apdu ≡ Some v → (rest : List Event) → ((values : List (Option Value)) (last echo : Option Ldata) → EndsDone IsJob plan (Up (whole kept (effect_in apdu)) values last echo (next_number p) (next_number h) (apdu ∷ sent) (v ∷ accepted)) rest)
       → EndsDone IsJob plan (Up kept values last echo p h sent accepted) (rest ++ operation apdu (Some v))
-  with_one apdu v expect next kept values last echo p h sent accepted small tiny went is fits a n rest more =
+  with_one place apdu v expect next kept values last echo p h sent accepted small tiny went is fits a n rest more =
       let iv : IsApdu v = answer_is_apdu d.frames kept apdu v n in
       let start : World = Up kept values last echo p h sent accepted in
       let g = waits me d t kept values last echo p h sent accepted apdu v small is fits a n in
@@ -88,30 +88,30 @@ module _ (IsJob : Plan → Type 0) (plan : Plan) (job : IsJob plan) (me : IndAdd
       let end : replay k answering ≡ Up (whole kept (effect_in apdu)) u.0 u.1 u.2 (next_number p) (next_number h) (apdu ∷ sent) (v ∷ accepted) = ap (λ (w : World). replay w answering) g.3 ∙ u.3 in
       let last_part : EndsDone IsJob plan k (rest ++ answering) = then_done IsJob plan k rest answering legal (tt, (tt, (tt, (tt, (tt, tt))))) (subst (λ (w : World). EndsDone IsJob plan w rest) (sym end) (more u.0 u.1 u.2)) in
       let all : EndsDone IsJob plan start ((rest ++ answering) ++ acknowledged apdu) = then_done IsJob plan start (rest ++ answering) (acknowledged apdu) (legal_without me d t kept values last echo p h sent accepted apdu small is fits)
-      (tt, (tt, (tt, (tt, ((plan, job, record { free = refl; expect = expect; next = next; went = went }), tt))))) last_part in
+      (tt, (tt, (tt, (tt, ((plan, job, record { free = refl; place = place; expect = expect; next = next; went = went }), tt))))) last_part in
       subst (λ (l : List Event). EndsDone IsJob plan start l) (append_assoc rest answering (acknowledged apdu)) all
 
-  by_answer : (apdu : List ℕ) (expect : Expect) (next : Option (List ℕ) → Plan) (kept : NonVolatile) (values : List (Option Value)) (last echo : Option Ldata) (p h : ℕ) (sent accepted : Texts) → p < 16 → h < 16 → Went plan sent accepted (Operation apdu expect next)
-      → IsSendable (Operation apdu expect next) → FitsInto d.frames apdu → (o : Option (List ℕ)) → answers_of d kept apdu ≡ o → Suits apdu expect o
+  by_answer : (place : ℕ) (apdu : List ℕ) (expect : Expect) (next : Option (List ℕ) → Plan) (kept : NonVolatile) (values : List (Option Value)) (last echo : Option Ldata) (p h : ℕ) (sent accepted : Texts) → p < 16 → h < 16 → Went plan sent accepted (Operation place apdu expect next)
+      → IsSendable (Operation place apdu expect next) → FitsInto d.frames apdu → (o : Option (List ℕ)) → answers_of d kept apdu ≡ o → Suits apdu expect o
       → ((p h : ℕ) (accepted : Texts) → p < 16 → h < 16 → Went plan (apdu ∷ sent) accepted (next o) → (values : List (Option Value)) (last echo : Option Ldata) → EndsDone IsJob plan (Up (whole kept (effect_in apdu)) values last echo p h (apdu ∷ sent) accepted) (operations (answers_of d) (next o) (whole kept (effect_in apdu))))
       → EndsDone IsJob plan (Up kept values last echo p h sent accepted) (operations (answers_of d) (next o) (whole kept (effect_in apdu)) ++ operation apdu o)
-  by_answer apdu AckOnly next kept values last echo p h sent accepted small tiny went s fits None e suits more =
-      without_one apdu next kept values last echo p h sent accepted small tiny went s.0 fits (sym s.1) e (operations (answers_of d) (next None) (whole kept (effect_in apdu)))
-      (more (next_number p) h accepted (next_small p) tiny (Acknowledged apdu next sent accepted went))
-  by_answer apdu (Is wanted) next kept values last echo p h sent accepted small tiny went s fits None e suits more = absurd suits
-  by_answer apdu Note next kept values last echo p h sent accepted small tiny went s fits None e suits more = absurd suits
-  by_answer apdu AckOnly next kept values last echo p h sent accepted small tiny went s fits (Some v) e suits more = absurd suits
-  by_answer apdu (Is wanted) next kept values last echo p h sent accepted small tiny went s fits (Some v) e suits more =
-      with_one apdu v (Is wanted) next kept values last echo p h sent accepted small tiny went s.0 fits (sym s.1) e (operations (answers_of d) (next (Some v)) (whole kept (effect_in apdu)))
-      (more (next_number p) (next_number h) (v ∷ accepted) (next_small p) (next_small h) (Answered apdu (Is wanted) next v sent accepted went suits))
-  by_answer apdu Note next kept values last echo p h sent accepted small tiny went s fits (Some v) e suits more =
-      with_one apdu v Note next kept values last echo p h sent accepted small tiny went s.0 fits (sym s.1) e (operations (answers_of d) (next (Some v)) (whole kept (effect_in apdu)))
-      (more (next_number p) (next_number h) (v ∷ accepted) (next_small p) (next_small h) (Answered apdu Note next v sent accepted went suits))
+  by_answer place apdu AckOnly next kept values last echo p h sent accepted small tiny went s fits None e suits more =
+      without_one place apdu next kept values last echo p h sent accepted small tiny went s.0 fits (sym s.1) e (operations (answers_of d) (next None) (whole kept (effect_in apdu)))
+      (more (next_number p) h accepted (next_small p) tiny (Acknowledged place apdu next sent accepted went))
+  by_answer place apdu (Is wanted) next kept values last echo p h sent accepted small tiny went s fits None e suits more = absurd suits
+  by_answer place apdu Note next kept values last echo p h sent accepted small tiny went s fits None e suits more = absurd suits
+  by_answer place apdu AckOnly next kept values last echo p h sent accepted small tiny went s fits (Some v) e suits more = absurd suits
+  by_answer place apdu (Is wanted) next kept values last echo p h sent accepted small tiny went s fits (Some v) e suits more =
+      with_one place apdu v (Is wanted) next kept values last echo p h sent accepted small tiny went s.0 fits (sym s.1) e (operations (answers_of d) (next (Some v)) (whole kept (effect_in apdu)))
+      (more (next_number p) (next_number h) (v ∷ accepted) (next_small p) (next_small h) (Answered place apdu (Is wanted) next v sent accepted went suits))
+  by_answer place apdu Note next kept values last echo p h sent accepted small tiny went s fits (Some v) e suits more =
+      with_one place apdu v Note next kept values last echo p h sent accepted small tiny went s.0 fits (sym s.1) e (operations (answers_of d) (next (Some v)) (whole kept (effect_in apdu)))
+      (more (next_number p) (next_number h) (v ∷ accepted) (next_small p) (next_small h) (Answered place apdu Note next v sent accepted went suits))
 
   goes_on : (rest : Plan) → GoesOn rest
   goes_on Over kept values last echo p h sent accepted small tiny went s a f = record { legal = tt; follows = tt; done = record { over = refl; all = went } }
-  goes_on (Operation apdu expect next) kept values last echo p h sent accepted small tiny went s a f =
-      by_answer apdu expect next kept values last echo p h sent accepted small tiny went s f.0 (answers_of d kept apdu) refl a.0
+  goes_on (Operation place apdu expect next) kept values last echo p h sent accepted small tiny went s a f =
+      by_answer place apdu expect next kept values last echo p h sent accepted small tiny went s f.0 (answers_of d kept apdu) refl a.0
       (λ p2 h2 accepted2 small2 tiny2 went2 values2 last2 echo2. goes_on (next (answers_of d kept apdu)) (whole kept (effect_in apdu)) values2 last2 echo2 p2 h2 (apdu ∷ sent) accepted2 small2 tiny2 went2 (s.2 (answers_of d kept apdu)) a.1 f.1)
 
 -- ---- the connection

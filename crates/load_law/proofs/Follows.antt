@@ -111,13 +111,13 @@ module _ (IsJob : Plan → Type 0) (Holds Case : NonVolatile → Type 0) (Ends :
   asks_load : (w : World) (b : Books) (apdu : List ℕ) (o : Option (List ℕ)) → WorldInv w b → LoadInv w b → MayAsk IsJob w (Asks apdu) → LoadInv (asks_so w apdu o) (asks_book b apdu o)
   asks_load w b apdu None h l may = l
   asks_load w b apdu (Some tpdu) h l (plan, job, may) =
-      let over = over_at w b plan (Operation apdu may.expect may.next) job h l may.free may.went in
+      let over = over_at w b plan (Operation may.place apdu may.expect may.next) job h l may.free may.went in
       record {
         same_frames = l.same_frames;
         case = l.case;
         holds = l.holds;
         in_step = (
-          record { plan = plan; job = job; expect = may.expect; next = may.next; accepted = w.client.accepted; went = subst (λ (z : Texts). Went plan z w.client.accepted (Operation apdu may.expect may.next)) (sym over.sent_is) may.went },
+          record { plan = plan; job = job; place = may.place; expect = may.expect; next = may.next; accepted = w.client.accepted; went = subst (λ (z : Texts). Went plan z w.client.accepted (Operation may.place apdu may.expect may.next)) (sym over.sent_is) may.went },
           λ len. over.given_is,
         );
         start = l.start;

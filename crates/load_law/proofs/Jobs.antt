@@ -94,7 +94,7 @@ plans_stay plans plan image me d later earlier all has job legal follows done si
 
 whole_answers : (answers : Answering) (plan : Plan) (start nv end : NonVolatile) → WholeRun answers plan nv end → nv ≡ start → Leads answers (λ u. u ≡ start) (λ u. u ≡ start) plan nv → AnswersAll answers plan start × (end ≡ start)
 whole_answers answers _ start _ _ (AtEnd nv) e h = (tt, e)
-whole_answers answers _ start _ _ (Goes apdu expect next nv outcome end whole_ suits rest) e h =
+whole_answers answers _ start _ _ (Goes place apdu expect next nv outcome end whole_ suits rest) e h =
     let ih = whole_answers answers (next (answers nv apdu)) start (kept_by nv apdu outcome) end rest (h.1 outcome) (h.2 outcome whole_ suits) in
     let same : whole start (effect_in apdu) ≡ start = subst (λ (z : NonVolatile). whole z (effect_in apdu) ≡ start) e (h.1 Whole) in
     let after : AnswersAll answers (next (answers start apdu)) start = subst (λ (z : NonVolatile). AnswersAll answers (next (answers z apdu)) start) e ih.0 in

@@ -34,10 +34,11 @@ whole_not_torn (Worn octets) h = tt
 pub record Planned (IsJob : Plan → Type 0) (apdu : List ℕ) (older : Texts) : Type 0 where
   pub plan : Plan
   pub job : IsJob plan
+  pub place : ℕ
   pub expect : Expect
   pub next : Option (List ℕ) → Plan
   pub accepted : Texts
-  pub went : Went plan older accepted (Operation apdu expect next)
+  pub went : Went plan older accepted (Operation place apdu expect next)
 
 abbrev pub InStep : (Plan → Type 0) → Texts → Texts → Texts → Type 0
 InStep IsJob [] delivered given = Unit {0}
@@ -59,9 +60,10 @@ module _ (IsJob : Plan → Type 0) (Holds Case : NonVolatile → Type 0) (Ends :
   -- the next operation leads on from what the device keeps
   pub record Next (apdu : List ℕ) (kept : NonVolatile) : Type 0 where
     pub plan : Plan
+    pub place : ℕ
     pub expect : Expect
     pub next : Option (List ℕ) → Plan
-    pub on : On Case (Ends plan) frames (Operation apdu expect next) kept
+    pub on : On Case (Ends plan) frames (Operation place apdu expect next) kept
 
   not_closed : (o : Seen) → extra o.connection ≡ 0 → o.connection ≡ Closed → ⊥
   not_closed o ex e = let h : extra o.connection ≡ 1 = ap extra e in omega arith
@@ -73,7 +75,7 @@ module _ (IsJob : Plan → Type 0) (Holds Case : NonVolatile → Type 0) (Ends :
   next_by asked apdu delivered given start kept e step case held t =
       let s : InStep IsJob (apdu ∷ delivered) delivered given = subst (λ (z : Texts). InStep IsJob z delivered given) e step in
       let same : given ≡ s.0.accepted = s.1 refl in
-      record { plan = s.0.plan; expect = s.0.expect; next = s.0.next; on = walked Case (Ends s.0.plan) frames Holds s.0.plan (all.good s.0.plan s.0.job) (all.sendable s.0.plan s.0.job) (Operation apdu s.0.expect s.0.next) delivered s.0.accepted start kept case held s.0.went (subst (λ (z : Texts). Trail frames start delivered z kept) same t) }
+      record { plan = s.0.plan; place = s.0.place; expect = s.0.expect; next = s.0.next; on = walked Case (Ends s.0.plan) frames Holds s.0.plan (all.good s.0.plan s.0.job) (all.sendable s.0.plan s.0.job) (Operation s.0.place apdu s.0.expect s.0.next) delivered s.0.accepted start kept case held s.0.went (subst (λ (z : Texts). Trail frames start delivered z kept) same t) }
 
   -- the service that is delivered is the next operation
   delivers : (asked : Texts) (s : TransportFrame) (o : Seen) (apdu : List ℕ) → Ready s asked o.delivered → Load asked o → extra o.connection ≡ 0 → s ≡ Numbered (length o.delivered % 16) apdu → (asked ≡ apdu ∷ o.delivered) × Next apdu o.kept

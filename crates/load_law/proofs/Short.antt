@@ -30,9 +30,9 @@ all_in (x ∷ l) = (tt, all_in l)
 
 -- ---- the whole plan
 
-listed_short : (answers : Answering) (operations : List Operation) (nv : NonVolatile) → AllShort operations → AllByRecursion (λ apdu. FitsInto Standard apdu) (services_given answers (listed operations) nv)
-listed_short answers [] nv h = tt
-listed_short answers (x ∷ xs) nv h = (h.0, listed_short answers xs _ h.1)
+listed_short : (place : ℕ) (answers : Answering) (operations : List Operation) (nv : NonVolatile) → AllShort operations → AllByRecursion (λ apdu. FitsInto Standard apdu) (services_given answers (listed place operations) nv)
+listed_short place answers [] nv h = tt
+listed_short place answers (x ∷ xs) nv h = (h.0, listed_short (suc place) answers xs _ h.1)
 
 -- a device of standard frames is given pieces of twelve octets
 size_is : (nv : NonVolatile) → size_by (answer_in Standard nv (apdu_octets (PropertyRead 0 56 1 1))) ≡ Twelve
@@ -42,8 +42,8 @@ size_is nv = refl
 noted_short : (image : Image) (nv : NonVolatile) → AllByRecursion (λ apdu. FitsInto Standard apdu) (services_given (answer_in Standard) (noting (load_operations image)) nv)
 noted_short image nv = (
   omega arith,
-  subst (λ (size : PieceSize). AllByRecursion (λ apdu. FitsInto Standard apdu) (services_given (answer_in Standard) (listed (load_operations image size)) (whole nv (effect_in (apdu_octets (PropertyRead 0 56 1 1)))))) (sym (size_is nv))
-      (listed_short (answer_in Standard) (load_operations image Twelve) _ (operations_short image)),
+  subst (λ (size : PieceSize). AllByRecursion (λ apdu. FitsInto Standard apdu) (services_given (answer_in Standard) (listed 2 (load_operations image size)) (whole nv (effect_in (apdu_octets (PropertyRead 0 56 1 1)))))) (sym (size_is nv))
+      (listed_short 2 (answer_in Standard) (load_operations image Twelve) _ (operations_short image)),
 )
 
 pub load_fits : (frames : FrameSupport) (image : Image) (nv : NonVolatile) → AllFit frames (answer_in frames) (load_plan image) nv

@@ -34,8 +34,8 @@ few frames start (apdu ∷ older) given kept t =
 
 pub sendable : (plan rest : Plan) (sent accepted : Texts) → IsSendable plan → Went plan sent accepted rest → IsSendable rest
 sendable plan _ _ _ s NotBegun = s
-sendable plan _ _ _ s (Acknowledged apdu next sent accepted w) = (sendable plan (Operation apdu AckOnly next) sent accepted s w).2 None
-sendable plan _ _ _ s (Answered apdu expect next got sent accepted w suits) = (sendable plan (Operation apdu expect next) sent accepted s w).2 (Some got)
+sendable plan _ _ _ s (Acknowledged place apdu next sent accepted w) = (sendable plan (Operation place apdu AckOnly next) sent accepted s w).2 None
+sendable plan _ _ _ s (Answered place apdu expect next got sent accepted w suits) = (sendable plan (Operation place apdu expect next) sent accepted s w).2 (Some got)
 
 answered_one : (apdu : List ℕ) (expect : Expect) (got : List ℕ) → Suits apdu expect (Some got) → awaits_answer expect ≡ has_answer apdu → has_answer apdu ≡ true
 answered_one apdu AckOnly got suits e = absurd suits
@@ -45,13 +45,13 @@ answered_one apdu Note got suits e = sym e
 -- it accepted just the answers that these services have
 pub count : (plan rest : Plan) (sent accepted : Texts) → IsSendable plan → Went plan sent accepted rest → length accepted ≡ want sent
 count plan _ _ _ s NotBegun = refl
-count plan _ _ _ s (Acknowledged apdu next sent accepted w) =
-    let ih : length accepted ≡ want sent = count plan (Operation apdu AckOnly next) sent accepted s w in
-    let none : one_if (has_answer apdu) ≡ 0 = ap one_if (sym (sendable plan (Operation apdu AckOnly next) sent accepted s w).1) in
+count plan _ _ _ s (Acknowledged place apdu next sent accepted w) =
+    let ih : length accepted ≡ want sent = count plan (Operation place apdu AckOnly next) sent accepted s w in
+    let none : one_if (has_answer apdu) ≡ 0 = ap one_if (sym (sendable plan (Operation place apdu AckOnly next) sent accepted s w).1) in
     omega arith
-count plan _ _ _ s (Answered apdu expect next got sent accepted w suits) =
-    let ih : length accepted ≡ want sent = count plan (Operation apdu expect next) sent accepted s w in
-    let one : one_if (has_answer apdu) ≡ 1 = ap one_if (answered_one apdu expect got suits (sendable plan (Operation apdu expect next) sent accepted s w).1) in
+count plan _ _ _ s (Answered place apdu expect next got sent accepted w suits) =
+    let ih : length accepted ≡ want sent = count plan (Operation place apdu expect next) sent accepted s w in
+    let one : one_if (has_answer apdu) ≡ 1 = ap one_if (answered_one apdu expect got suits (sendable plan (Operation place apdu expect next) sent accepted s w).1) in
     omega arith
 
 -- ---- plans that are good for devices of which something holds, which no service takes from them: any beginning leaves a right content, and all of it
@@ -75,27 +75,27 @@ module _ (Case Ends : NonVolatile → Type 0) (frames : FrameSupport) where
   begun : (Holds : NonVolatile → Type 0) (plan : Plan) → IsGoodFor Holds Case Ends plan → (start : NonVolatile) → Case start → Holds start → On plan start
   begun Holds plan good start case holds = Leads-by_runs (answer_in frames) Case Ends plan start (λ end b. good.beginnings frames start end holds case b) (λ end r. good.whole_runs frames start end holds case r)
 
-  goes_on : (apdu : List ℕ) (expect : Expect) (next : Option (List ℕ) → Plan) (nv kept : NonVolatile) (outcome : Outcome) (o : Option (List ℕ)) → answer_in frames nv apdu ≡ o → Suits apdu expect o → IsNotTorn outcome → kept ≡ kept_by nv apdu outcome
-      → On (Operation apdu expect next) nv → On (next o) kept
-  goes_on apdu expect next nv kept outcome o e suits whole ke h =
+  goes_on : (place : ℕ) (apdu : List ℕ) (expect : Expect) (next : Option (List ℕ) → Plan) (nv kept : NonVolatile) (outcome : Outcome) (o : Option (List ℕ)) → answer_in frames nv apdu ≡ o → Suits apdu expect o → IsNotTorn outcome → kept ≡ kept_by nv apdu outcome
+      → On (Operation place apdu expect next) nv → On (next o) kept
+  goes_on place apdu expect next nv kept outcome o e suits whole ke h =
       subst (λ (z : NonVolatile). On (next o) z) (sym ke)
       (subst (λ (z : Option (List ℕ)). On (next z) (kept_by nv apdu outcome)) e (h.2 outcome whole (subst (λ (z : Option (List ℕ)). Suits apdu expect z) (sym e) suits)))
 
-  answered_on : (apdu : List ℕ) (expect : Expect) (next : Option (List ℕ) → Plan) (got : List ℕ) (sent accepted rest : Texts) (start nv kept : NonVolatile) (outcome : Outcome) (o : Option (List ℕ)) → answer_in frames nv apdu ≡ o → got ∷ accepted ≡ and_octets o rest
-      → length rest ≤ want sent → length accepted ≡ want sent → Suits apdu expect (Some got) → IsNotTorn outcome → kept ≡ kept_by nv apdu outcome → (rest ≡ accepted → On (Operation apdu expect next) nv) → On (next (Some got)) kept
-  answered_on apdu expect next got sent accepted rest start nv kept outcome None e same most all suits whole ke f =
+  answered_on : (place : ℕ) (apdu : List ℕ) (expect : Expect) (next : Option (List ℕ) → Plan) (got : List ℕ) (sent accepted rest : Texts) (start nv kept : NonVolatile) (outcome : Outcome) (o : Option (List ℕ)) → answer_in frames nv apdu ≡ o → got ∷ accepted ≡ and_octets o rest
+      → length rest ≤ want sent → length accepted ≡ want sent → Suits apdu expect (Some got) → IsNotTorn outcome → kept ≡ kept_by nv apdu outcome → (rest ≡ accepted → On (Operation place apdu expect next) nv) → On (next (Some got)) kept
+  answered_on place apdu expect next got sent accepted rest start nv kept outcome None e same most all suits whole ke f =
       absurd (let len : suc (length accepted) ≡ length rest = ap (λ (l : Texts). length l) same in omega arith)
-  answered_on apdu expect next got sent accepted rest start nv kept outcome (Some v) e same most all suits whole ke f =
+  answered_on place apdu expect next got sent accepted rest start nv kept outcome (Some v) e same most all suits whole ke f =
       let is : got ≡ v = cc in
       let more : rest ≡ accepted = cc in
-      goes_on apdu expect next nv kept outcome (Some got) (e ∙ ap (λ (z : List ℕ). Some z) (sym is)) suits whole ke (f more)
+      goes_on place apdu expect next nv kept outcome (Some got) (e ∙ ap (λ (z : List ℕ). Some z) (sym is)) suits whole ke (f more)
 
   pub walked : (Holds : NonVolatile → Type 0) (plan : Plan) → IsGoodFor Holds Case Ends plan → IsSendable plan → (rest : Plan) (sent given : Texts) (start kept : NonVolatile) → Case start → Holds start → Went plan sent given rest → Trail frames start sent given kept → On rest kept
   walked Holds plan good can _ _ _ start kept case holds NotBegun t = subst (λ (z : NonVolatile). On plan z) (sym t.1) (begun Holds plan good start case holds)
-  walked Holds plan good can _ _ _ start kept case holds (Acknowledged apdu next sent accepted w) t =
-      let none : answer_in frames t.0 apdu ≡ None = no_answer frames t.0 apdu (sym (sendable plan (Operation apdu AckOnly next) sent accepted can w).1) in
+  walked Holds plan good can _ _ _ start kept case holds (Acknowledged place apdu next sent accepted w) t =
+      let none : answer_in frames t.0 apdu ≡ None = no_answer frames t.0 apdu (sym (sendable plan (Operation place apdu AckOnly next) sent accepted can w).1) in
       let same : t.1 ≡ accepted = sym (t.4 ∙ ap (λ (z : Option (List ℕ)). and_octets z t.1) none) in
-      goes_on apdu AckOnly next t.0 kept t.2 None none tt t.3 t.5 (walked Holds plan good can (Operation apdu AckOnly next) sent accepted start t.0 case holds w (subst (λ (z : Texts). Trail frames start sent z t.0) same t.6))
-  walked Holds plan good can _ _ _ start kept case holds (Answered apdu expect next got sent accepted w suits) t =
-      answered_on apdu expect next got sent accepted t.1 start t.0 kept t.2 (answer_in frames t.0 apdu) refl t.4 (few frames start sent t.1 t.0 t.6) (count plan (Operation apdu expect next) sent accepted can w) suits t.3 t.5
-      (λ same. walked Holds plan good can (Operation apdu expect next) sent accepted start t.0 case holds w (subst (λ (z : Texts). Trail frames start sent z t.0) same t.6))
+      goes_on place apdu AckOnly next t.0 kept t.2 None none tt t.3 t.5 (walked Holds plan good can (Operation place apdu AckOnly next) sent accepted start t.0 case holds w (subst (λ (z : Texts). Trail frames start sent z t.0) same t.6))
+  walked Holds plan good can _ _ _ start kept case holds (Answered place apdu expect next got sent accepted w suits) t =
+      answered_on place apdu expect next got sent accepted t.1 start t.0 kept t.2 (answer_in frames t.0 apdu) refl t.4 (few frames start sent t.1 t.0 t.6) (count plan (Operation place apdu expect next) sent accepted can w) suits t.3 t.5
+      (λ same. walked Holds plan good can (Operation place apdu expect next) sent accepted start t.0 case holds w (subst (λ (z : Texts). Trail frames start sent z t.0) same t.6))

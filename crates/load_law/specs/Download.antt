@@ -17,16 +17,17 @@ use Rattle.session_law.specs.Events.{Event, Asks, replay, IsLegal}
 -- The services that were sent are operations of the plan, each was answered as wanted, and this is left of the plan.
 pub data Went (plan : Plan) : List (List ℕ) → List (List ℕ) → Plan → Type 0 where
   NotBegun : Went plan [] [] plan
-  Acknowledged : (apdu : List ℕ) (next : Option (List ℕ) → Plan) (sent accepted : List (List ℕ)) → Went plan sent accepted (Operation apdu AckOnly next) → Went plan (apdu ∷ sent) accepted (next None)
-  Answered : (apdu : List ℕ) (expect : Expect) (next : Option (List ℕ) → Plan) (got : List ℕ) (sent accepted : List (List ℕ)) → Went plan sent accepted (Operation apdu expect next) → Suits apdu expect (Some got)
+  Acknowledged : (place : ℕ) (apdu : List ℕ) (next : Option (List ℕ) → Plan) (sent accepted : List (List ℕ)) → Went plan sent accepted (Operation place apdu AckOnly next) → Went plan (apdu ∷ sent) accepted (next None)
+  Answered : (place : ℕ) (apdu : List ℕ) (expect : Expect) (next : Option (List ℕ) → Plan) (got : List ℕ) (sent accepted : List (List ℕ)) → Went plan sent accepted (Operation place apdu expect next) → Suits apdu expect (Some got)
       → Went plan (apdu ∷ sent) (got ∷ accepted) (next (Some got))
 
 -- a service that the client sends is the plan's next operation, and nothing is awaited
 pub record IsNext (plan : Plan) (w : World) (apdu : List ℕ) : Type 0 where
   pub free : awaits_nothing w.client.end ≡ true
+  pub place : ℕ
   pub expect : Expect
   pub next : Option (List ℕ) → Plan
-  pub went : Went plan w.client.sent w.client.accepted (Operation apdu expect next)
+  pub went : Went plan w.client.sent w.client.accepted (Operation place apdu expect next)
 
 -- of a plan that is a job's
 abbrev pub MayAsk : (Plan → Type 0) → World → Event → Type 0

@@ -26,7 +26,7 @@ operation apdu (Some got) = Takes ∷ Bus Whole ∷ Replies ∷ Takes ∷ DevSen
 -- of a device with these answers, which keeps this
 abbrev pub operations : Answering → Plan → NonVolatile → List Event
 operations answers Over nv = []
-operations answers (Operation apdu expect next) nv = operations answers (next (answers nv apdu)) (whole nv (effect_in apdu)) ++ operation apdu (answers nv apdu)
+operations answers (Operation place apdu expect next) nv = operations answers (next (answers nv apdu)) (whole nv (effect_in apdu)) ++ operation apdu (answers nv apdu)
 
 abbrev pub undisturbed : Answering → Plan → NonVolatile → List Event
 undisturbed answers plan nv = operations answers plan nv ++ opening
