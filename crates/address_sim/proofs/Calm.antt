@@ -21,7 +21,7 @@ module _ (start : AddressWorld) where
   in_place losses past (Respond place at) h r = r
   in_place losses past GwRepeat h r = h
   in_place losses past GwClose h r = h
-  in_place losses past (Pass ms) h r = record { tunnel = record { up = h.line.settled.up; down = h.line.settled.down; bus = h.line.settled.bus }; units = h.units }
+  in_place losses past (Pass ms) h r = record { tunnel = h.tunnel; units = h.units }
 
   pub calm_by : (losses : List UnitLoss) (events : List AddressEvent) → FollowsText losses start events → NothingLost events → AreCalm start events
   calm_by losses [] h r = tt

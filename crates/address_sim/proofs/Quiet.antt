@@ -20,7 +20,7 @@ use Rattle.address_sim.specs.Turns.{IsQuiet, IsCalm}
 
 -- nothing goes up, and nothing waits for the bus
 pub record IsEmpty (t : Tunnel) : Type 0 where
-  pub up : next_up (record { tunnel = t; devices = λ address. None; echo = None }) ≡ None
+  pub up : next_up t ≡ None
   pub bus : t.gateway.bus ≡ []
 
 puts_empty : (t : Tunnel) (o : Option (Channel × Ldata)) → IsEmpty t → IsEmpty (puts t o)
@@ -157,14 +157,12 @@ closes_so t h =
 
 pub still : (w : AddressWorld) (ms : ℕ) → IsCalm w → ((k : ℕ) → k < ms → gateway_expired w.tunnel.gateway (w.tunnel.now + k) ≡ Nothing) → IsStill w ms
 still w ms calm until = record {
-  line = record {
-    settled = record {
-      up = all_over Every (made w.tunnel) w.tunnel.network.up calm.quiet.up;
-      down = all_over (To w.tunnel.present) (made w.tunnel) w.tunnel.network.down calm.comes;
-      bus = calm.quiet.bus;
-      nothing_to_send = record { devices = λ address d there. cc; gateway = calm.due };
-    };
-    still = λ k h. record { devices = λ address d there. cc; gateway = until k h };
+  tunnel = record {
+    up = all_over Every (made w.tunnel) w.tunnel.network.up calm.quiet.up;
+    down = all_over (To w.tunnel.present) (made w.tunnel) w.tunnel.network.down calm.comes;
+    bus = calm.quiet.bus;
   };
+  gateway = calm.due;
+  still = until;
   units = calm.quiet.units;
 }

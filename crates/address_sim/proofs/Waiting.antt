@@ -3,7 +3,7 @@ use Rattle.std.proofs.Common.{◌≡◌, ◌≢◌, ℕ, ◌+◌, ◌-◌, ◌�
 use Rattle.line_model.specs.Deliveries.{next_up}
 use Rattle.line_model.specs.Record.{Quiet}
 use Rattle.address_world.specs.AddressWorld.{AddressWorld, Pass}
-use Rattle.address_sim.specs.Follows.{AllSent, line_of}
+use Rattle.address_sim.specs.Follows.{AllSent}
 use Rattle.address_sim.specs.Told.{RunNow, world as world_of}
 use Rattle.address_sim.specs.Turns.{RunState, seen, world, now, Stays, Happens, Gets, GoesUnseen, HasRoom, SameRecord, EndedSo, IsCalm, NothingComes, NothingDue}
 use Rattle.address_sim.proofs.Polling.{AddsOne, WaitsSo, ends_got, ends_quiet, from_same, gets_one, no_waits, passes_one, same_stays, unseen_same, waits_more, waits_same}
@@ -33,10 +33,10 @@ got_at_once octets old mid new same gets wait =
     from_same (Some octets) wait (seen old) (seen mid) (seen new) same (ends_got octets (seen mid) (seen mid) (seen new) wait wait (no_waits (seen mid) wait) (gets_one octets mid new gets) gets.short)
 
 -- each of these was asked in turn, and nothing happened in between
-pub calm_after : (a b c d e : RunState) → Stays a b → NothingComes (world a) → Stays b c → AllSent (world b).units → Stays c d → next_up (line_of (world c)) ≡ None → Stays d e → (world d).tunnel.gateway.bus ≡ [] → NothingDue (world e) → IsCalm (world e)
+pub calm_after : (a b c d e : RunState) → Stays a b → NothingComes (world a) → Stays b c → AllSent (world b).units → Stays c d → next_up (world c).tunnel ≡ None → Stays d e → (world d).tunnel.gateway.bus ≡ [] → NothingDue (world e) → IsCalm (world e)
 calm_after a b c d e ab comes bc sent cd up de bus due = record {
   quiet = record {
-    up = carried (λ w. next_up (line_of w) ≡ None) d e de (carried (λ w. next_up (line_of w) ≡ None) c d cd up);
+    up = carried (λ w. next_up w.tunnel ≡ None) d e de (carried (λ w. next_up w.tunnel ≡ None) c d cd up);
     bus = carried (λ w. w.tunnel.gateway.bus ≡ []) d e de bus;
     units = carried (λ w. AllSent w.units) d e de (carried (λ w. AllSent w.units) c d cd (carried (λ w. AllSent w.units) b c bc sent));
   };

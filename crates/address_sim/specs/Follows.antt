@@ -1,22 +1,18 @@
 -- When the events of the simulated bus follow its text (this project's own): nothing is lost but what its lines say. Each datagram is delivered once, in
 -- order; the gateway repeats and closes exactly when its wait has passed, and refuses nothing; and time passes only where nothing else can happen, never
 -- beyond the next such time.
-use Rattle.std.specs.Prelude.{◌≡◌, ℕ, suc, Bool, true, false, ◌==◌, List, [], ◌∷◌, Option, Some, None, if◌then◌else◌}
+use Rattle.std.specs.Prelude.{◌≡◌, ℕ, suc, ◌+◌, ◌<◌, Bool, true, false, ◌==◌, List, [], ◌∷◌, Option, Some, None, if◌then◌else◌}
 use Rattle.std.specs.List.{AllByRecursion}
 use Rattle.knx_model.specs.declared.frames.cemi.Ldata.{Ldata}
 use Rattle.line_model.specs.Deliveries.{next_up, next_down}
 use Rattle.line_model.specs.Follows.{IsGatewayRepeat, IsGatewayClosing, at_gateway, gateway_due}
-use Rattle.line_model.specs.Fresh.{SettledFor}
+use Rattle.line_model.specs.Fresh.{TunnelSettled}
+use Rattle.line_model.specs.Gateway.{gateway_expired, Nothing}
 use Rattle.line_model.specs.Tunnel.{Commissions}
-use Rattle.line_model.specs.World.{World}
 use Rattle.address_world.specs.declared.unit.UnitLoss.{UnitLoss}
 use Rattle.address_world.specs.AddressWorld.{AddressWorld, AddressEvent, UnitState, Send, Renew, Up, UpRefused, Down, LoseUp, LoseDown, Bus, Respond, GwRepeat, GwClose, Pass, next_frame, replay}
 use Rattle.address_sim.specs.Losses.{without, loses_answer}
 use Rattle.address_sim.specs.Told.{is_broadcast}
-
--- the tunnel as that of a line without devices
-abbrev pub line_of : AddressWorld → World
-line_of w = record { tunnel = w.tunnel; devices = λ address. None; echo = None }
 
 -- ---- counts
 
@@ -60,7 +56,9 @@ AllSent units = AllByRecursion (λ (u : UnitState). u.unsent ≡ []) units
 
 -- nothing but time can go on for so many milliseconds
 pub record IsStill (w : AddressWorld) (ms : ℕ) : Type 0 where
-  pub line : SettledFor Commissions (line_of w) ms
+  pub tunnel : TunnelSettled Commissions w.tunnel
+  pub gateway : gateway_due w.tunnel ≡ Nothing
+  pub still : (t : ℕ) → t < ms → gateway_expired w.tunnel.gateway (w.tunnel.now + t) ≡ Nothing
   pub units : AllSent w.units
 
 -- ---- one row an event
@@ -68,15 +66,15 @@ pub record IsStill (w : AddressWorld) (ms : ℕ) : Type 0 where
 abbrev pub IsInPlace : List UnitLoss → AddressWorld → List AddressEvent → AddressEvent → Type 0
 IsInPlace losses start past (Send octets) = Unit {0}
 IsInPlace losses start past Renew = Unit {0}
-IsInPlace losses start past (Up age) = next_up (line_of (replay start past)) ≡ Some age
+IsInPlace losses start past (Up age) = next_up (replay start past).tunnel ≡ Some age
 IsInPlace losses start past (UpRefused age status) = ⊥
-IsInPlace losses start past (Down age) = next_down Commissions (line_of (replay start past)) ≡ Some age
+IsInPlace losses start past (Down age) = next_down Commissions (replay start past).tunnel ≡ Some age
 IsInPlace losses start past (LoseUp age) = ⊥
 IsInPlace losses start past (LoseDown age) = ⊥
 IsInPlace losses start past (Bus left_out) = IsCarriedSo losses (suc (broadcasts start past)) (next_frame (replay start past)) left_out
 IsInPlace losses start past (Respond place at) = at ≡ at_gateway (loses_answer losses place (suc (responses place past)))
-IsInPlace losses start past GwRepeat = IsGatewayRepeat (gateway_due (line_of (replay start past)))
-IsInPlace losses start past GwClose = IsGatewayClosing (gateway_due (line_of (replay start past)))
+IsInPlace losses start past GwRepeat = IsGatewayRepeat (gateway_due (replay start past).tunnel)
+IsInPlace losses start past GwClose = IsGatewayClosing (gateway_due (replay start past).tunnel)
 IsInPlace losses start past (Pass ms) = IsStill (replay start past) ms
 
 abbrev pub FollowsText : List UnitLoss → AddressWorld → List AddressEvent → Type 0

@@ -12,7 +12,7 @@ use Rattle.address_world.specs.AddressStory.{record_of}
 use Rattle.address_sim.specs.declared.poll.Settled.{Settled}
 use Rattle.address_sim.specs.declared.poll.Settled.TheVariants as settled
 use Rattle.address_sim.specs.declared.run.Beginning.{Beginning}
-use Rattle.address_sim.specs.Follows.{IsInPlace, AllSent, line_of}
+use Rattle.address_sim.specs.Follows.{IsInPlace, AllSent}
 use Rattle.address_sim.specs.Told.{Begun, RunNow, happened, start, story, time, world as world_of}
 
 abbrev pub begun_of : Beginning → Begun
@@ -78,13 +78,13 @@ pub record GoesUnseen (old new : RunState) : Type 0 where
 -- ---- where nothing goes to the gateway, over the bus or from a unit
 
 pub record IsQuiet (w : AddressWorld) : Type 0 where
-  pub up : next_up (line_of w) ≡ None
+  pub up : next_up w.tunnel ≡ None
   pub bus : w.tunnel.gateway.bus ≡ []
   pub units : AllSent w.units
 
 -- nor to the client
 abbrev pub NothingComes : AddressWorld → Type 0
-NothingComes w = next_down Commissions (line_of w) ≡ None
+NothingComes w = next_down Commissions w.tunnel ≡ None
 
 abbrev pub NothingDue : AddressWorld → Type 0
 NothingDue w = gateway_expired w.tunnel.gateway w.tunnel.now ≡ Nothing

@@ -4,7 +4,7 @@ ghost use Rattle.std.specs.Prelude.{◌≡◌, ◌+◌, ◌≤◌, true, false, 
 ghost use Rattle.knx_model.specs.Connection.{last_time};
 ghost use Rattle.line_model.specs.Deliveries.{next_up};
 ghost use Rattle.address_world.specs.AddressWorld.{Pass};
-ghost use Rattle.address_sim.specs.Follows.{AllSent, line_of};
+ghost use Rattle.address_sim.specs.Follows.{AllSent};
 ghost use Rattle.address_sim.specs.Turns.{Gets, GoesUnseen, Happens, HasRoom, IsCalm, IsQuiet, IsRight, NothingComes, NothingDue, Spends, Stays, now, world};
 
 use crate::frames::response;
@@ -52,7 +52,7 @@ impl Run {
     /// The gateway takes the client's next datagram. Tells whether there was one. At `Err` nothing has happened.
     pub fn up(&mut self) -> Result<bool, NoMemory>
         ensures did { IfOk result (λ did. did ≡ true → GoesUnseen self.old self.new) }
-        ensures none { IfOk result (λ did. did ≡ false → Stays self.old self.new × (next_up (line_of (world self.old)) ≡ None)) }
+        ensures none { IfOk result (λ did. did ≡ false → Stays self.old self.new × (next_up (world self.old).tunnel ≡ None)) }
         ensures err { OnErr result (Stays self.old self.new) }
     {
         let Some(age) = self.tunnel.next_up() else {

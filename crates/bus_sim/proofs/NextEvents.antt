@@ -72,12 +72,12 @@ module _ (b : Beginning) (es : List Event) (index : ScriptIndex) (n : LineNow) (
 
   -- what is called for is still possible
   pub again_up_there : (number : ℕ) (result : Option ℕ) (v : RunState) → state ≡ v → Calls (seen v) (DeliverAgain number)
-      → ((w : World) → IsNow n w → CanTell number w.tunnel.network.up → is_some result ≡ passes_again (goes_up w) w.tunnel.network.up number) → is_some result ≡ true
+      → ((w : World) → IsNow n w → CanTell number w.tunnel.network.up → is_some result ≡ passes_again (goes_up w.tunnel) w.tunnel.network.up number) → is_some result ≡ true
   again_up_there number result v view calls possible =
       possible (replay (start_of b) es) h.pictured (can_tell number (replay (start_of b) es).tunnel.network.up exact.up) ∙ called_possible r (DeliverAgain number) (subst (λ (v : RunState). Calls (seen v) (DeliverAgain number)) (sym view) calls)
 
   pub again_down_there : (number : ℕ) (result : Option ℕ) (v : RunState) → state ≡ v → Calls (seen v) (ReachAgain number)
-      → ((w : World) → IsNow n w → CanTell number w.tunnel.network.down → is_some result ≡ passes_again (goes_down (mode_in b) w) w.tunnel.network.down number) → is_some result ≡ true
+      → ((w : World) → IsNow n w → CanTell number w.tunnel.network.down → is_some result ≡ passes_again (goes_down (mode_in b) w.tunnel) w.tunnel.network.down number) → is_some result ≡ true
   again_down_there number result v view calls possible =
       possible (replay (start_of b) es) h.pictured (can_tell number (replay (start_of b) es).tunnel.network.down exact.down) ∙ called_possible r (ReachAgain number) (subst (λ (v : RunState). Calls (seen v) (ReachAgain number)) (sym view) calls)
 
@@ -116,11 +116,11 @@ module _ (b : Beginning) (es : List Event) (index : ScriptIndex) (n : LineNow) (
       (carried_right r frame (e state) (subst (λ (v : RunState). NothingCalled (seen v)) (sym view) free) (subst (λ (v : RunState). Some frame ≡ next_frame (world v)) (sym view) due)
       (subst (λ (v : RunState). e v ≡ carried v frame) (sym view) so) (allowed (mode_in b) n (replay (start_of b) es) (e state) h.pictured allows))
 
-  pub next_down_is : (result : Option ℕ) (v : RunState) → state ≡ v → ((w : World) → IsNow n w → result ≡ next_down (mode_in b) w) → result ≡ next_down (mode (seen v)) (world v)
-  next_down_is result v view is = subst (λ (v : RunState). result ≡ next_down (mode (seen v)) (world v)) view (is (replay (start_of b) es) h.pictured)
+  pub next_down_is : (result : Option ℕ) (v : RunState) → state ≡ v → ((w : World) → IsNow n w → result ≡ next_down (mode_in b) w.tunnel) → result ≡ next_down (mode (seen v)) (world v).tunnel
+  next_down_is result v view is = subst (λ (v : RunState). result ≡ next_down (mode (seen v)) (world v).tunnel) view (is (replay (start_of b) es) h.pictured)
 
-  pub next_up_is : (result : Option ℕ) (v : RunState) → state ≡ v → ((w : World) → IsNow n w → result ≡ next_up w) → result ≡ next_up (world v)
-  next_up_is result v view is = subst (λ (v : RunState). result ≡ next_up (world v)) view (is (replay (start_of b) es) h.pictured)
+  pub next_up_is : (result : Option ℕ) (v : RunState) → state ≡ v → ((w : World) → IsNow n w → result ≡ next_up w.tunnel) → result ≡ next_up (world v).tunnel
+  next_up_is result v view is = subst (λ (v : RunState). result ≡ next_up (world v).tunnel) view (is (replay (start_of b) es) h.pictured)
 
   pub sender_is : (result : Option (ℕ × Sending)) (v : RunState) → state ≡ v → IfSome result (λ sender. (w : World) → IsNow n w → sending_at (w.devices sender.0) (now w) ≡ Some sender.1)
       → IfSome result (λ sender. sending_at ((world v).devices sender.0) (now (world v)) ≡ Some sender.1)
@@ -201,8 +201,8 @@ is_closing (gateway.Repeat frame) e = absurd (other e)
     other e = cc
 is_closing (gateway.Closing frame) e = tt
 
-pub gateway_repeats_right : (v : RunState) → NothingCalled (seen v) → due_of (gateway_due (world v)) ≡ due.Repeat → MayHappen (mode (seen v)) (world v) GwRepeat → IsRight (seen v) GwRepeat
-gateway_repeats_right v free e may = free_right (seen v) GwRepeat free (is_repeat (gateway_due (world v)) e) may
+pub gateway_repeats_right : (v : RunState) → NothingCalled (seen v) → due_of (gateway_due (world v).tunnel) ≡ due.Repeat → MayHappen (mode (seen v)) (world v) GwRepeat → IsRight (seen v) GwRepeat
+gateway_repeats_right v free e may = free_right (seen v) GwRepeat free (is_repeat (gateway_due (world v).tunnel) e) may
 
-pub gateway_closes_right : (v : RunState) → NothingCalled (seen v) → due_of (gateway_due (world v)) ≡ due.Closed → MayHappen (mode (seen v)) (world v) GwClose → IsRight (seen v) GwClose
-gateway_closes_right v free e may = free_right (seen v) GwClose free (is_closing (gateway_due (world v)) e) may
+pub gateway_closes_right : (v : RunState) → NothingCalled (seen v) → due_of (gateway_due (world v).tunnel) ≡ due.Closed → MayHappen (mode (seen v)) (world v) GwClose → IsRight (seen v) GwClose
+gateway_closes_right v free e may = free_right (seen v) GwClose free (is_closing (gateway_due (world v).tunnel) e) may

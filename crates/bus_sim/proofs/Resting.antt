@@ -43,8 +43,8 @@ passes_alone w ms none = ap (λ o. record { tunnel = puts (record w.tunnel { now
 
 settled_later : (m : Mode) (w : World) (ms : ℕ) → Settled m w → HasNothingToSend (later w ms) (now (later w ms)) → Settled m (later w ms)
 unfolding later
-settled_later Commissions w ms s nothing = record { up = s.up; down = s.down; bus = s.bus; nothing_to_send = nothing }
-settled_later Serves w ms s nothing = record { up = s.up; down = s.down; bus = s.bus; nothing_to_send = nothing }
+settled_later Commissions w ms s nothing = record { tunnel = record { up = s.tunnel.up; down = s.tunnel.down; bus = s.tunnel.bus }; nothing_to_send = nothing }
+settled_later Serves w ms s nothing = record { tunnel = record { up = s.tunnel.up; down = s.tunnel.down; bus = s.tunnel.bus }; nothing_to_send = nothing }
 
 nothing_now : (w : World) → HasNothingToSend w (now w) → HasNothingToSend (later w 0) (now (later w 0))
 unfolding later

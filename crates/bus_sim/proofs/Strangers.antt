@@ -8,7 +8,7 @@ use Rattle.knx_model.specs.declared.script.ScriptLine.{ScriptLine}
 use Rattle.knx_model.specs.declared.script.ScriptWhat.{ScriptWhat}
 use Rattle.knx_model.specs.declared.script.ScriptWhat.TheVariants.{LoseTo, LoseFrom}
 use Rattle.knx_model.specs.ScriptText.{IsStranger, device_named, is_listed}
-use Rattle.line_model.specs.Lines.{loses_from, loses_to, says_lose_from, says_lose_to, script_of}
+use Rattle.line_model.specs.Lines.{loses_from, loses_to, is_line, script_of}
 use Rattle.line_model.specs.StartOf.{line_of}
 use Rattle.script_text.proofs.Strangers.{none}
 use Rattle.bus_sim.specs.declared.beginning.Beginning.{Beginning}
@@ -56,16 +56,16 @@ none_says tunnel devices a test can off names (l ∷ ls) known =
         (λ y. off (ap line_of (sym raw) ∙ listed_on tunnel devices d can y))
         (λ n. known 0 l refl (record { device = d; named = named; unlisted = n }))
 
-names_lost_to : (a n : ℕ) → Names a (says_lose_to a n)
+names_lost_to : (a n : ℕ) → Names a (is_line (LoseTo (record { raw = a }) n))
 names_lost_to a n (LoseTo d k) e = (d, refl, same_number d.raw a (both (d.raw == a) (k == n) e))
 names_lost_to a n _ e = cc
 
-names_lost_from : (a n : ℕ) → Names a (says_lose_from a n)
+names_lost_from : (a n : ℕ) → Names a (is_line (LoseFrom (record { raw = a }) n))
 names_lost_from a n (LoseFrom d k) e = (d, refl, same_number d.raw a (both (d.raw == a) (k == n) e))
 names_lost_from a n _ e = cc
 
 pub nothing_to : (b : Beginning) (a n : ℕ) → IsLoaded b → line_of a ≢ line_of b.tunnel.raw → loses_to (said b) a n ≡ false
-nothing_to b a n loaded off = none_says b.tunnel b.devices a (says_lose_to a n) loaded.can off (names_lost_to a n) b.script (none (addresses b.devices) b.script loaded.known)
+nothing_to b a n loaded off = none_says b.tunnel b.devices a (is_line (LoseTo (record { raw = a }) n)) loaded.can off (names_lost_to a n) b.script (none (addresses b.devices) b.script loaded.known)
 
 pub nothing_from : (b : Beginning) (a n : ℕ) → IsLoaded b → line_of a ≢ line_of b.tunnel.raw → loses_from (said b) a n ≡ false
-nothing_from b a n loaded off = none_says b.tunnel b.devices a (says_lose_from a n) loaded.can off (names_lost_from a n) b.script (none (addresses b.devices) b.script loaded.known)
+nothing_from b a n loaded off = none_says b.tunnel b.devices a (is_line (LoseFrom (record { raw = a }) n)) loaded.can off (names_lost_from a n) b.script (none (addresses b.devices) b.script loaded.known)

@@ -35,7 +35,7 @@ impl Run {
     fn go_on_up(&mut self, left: u32) -> Result<Turn, NoMemory>
         requires time { now (world self.old) + left ≤ last_time }
         requires free { NothingCalled (seen self.old) }
-        requires down { next_down (mode (seen self.old)) (world self.old) ≡ None }
+        requires down { next_down (mode (seen self.old)) (world self.old).tunnel ≡ None }
         ensures turns { IfOk result (λ turn. Turns turn left self.old self.new) }
         ensures err { OnErr result (Stays self.old self.new) }
     {
@@ -52,8 +52,8 @@ impl Run {
     fn go_on_bus(&mut self, left: u32) -> Result<Turn, NoMemory>
         requires time { now (world self.old) + left ≤ last_time }
         requires free { NothingCalled (seen self.old) }
-        requires down { next_down (mode (seen self.old)) (world self.old) ≡ None }
-        requires up { next_up (world self.old) ≡ None }
+        requires down { next_down (mode (seen self.old)) (world self.old).tunnel ≡ None }
+        requires up { next_up (world self.old).tunnel ≡ None }
         ensures turns { IfOk result (λ turn. Turns turn left self.old self.new) }
         ensures err { OnErr result (Stays self.old self.new) }
     {
@@ -70,8 +70,8 @@ impl Run {
     fn go_on_gateway(&mut self, left: u32) -> Result<Turn, NoMemory>
         requires time { now (world self.old) + left ≤ last_time }
         requires free { NothingCalled (seen self.old) }
-        requires down { next_down (mode (seen self.old)) (world self.old) ≡ None }
-        requires up { next_up (world self.old) ≡ None }
+        requires down { next_down (mode (seen self.old)) (world self.old).tunnel ≡ None }
+        requires up { next_up (world self.old).tunnel ≡ None }
         requires bus { next_frame (world self.old) ≡ None }
         ensures turns { IfOk result (λ turn. Turns turn left self.old self.new) }
         ensures err { OnErr result (Stays self.old self.new) }
@@ -93,8 +93,8 @@ impl Run {
     fn at_devices(&mut self, left: u32) -> Result<Turn, NoMemory>
         requires time { now (world self.old) + left ≤ last_time }
         requires free { NothingCalled (seen self.old) }
-        requires down { next_down (mode (seen self.old)) (world self.old) ≡ None }
-        requires up { next_up (world self.old) ≡ None }
+        requires down { next_down (mode (seen self.old)) (world self.old).tunnel ≡ None }
+        requires up { next_up (world self.old).tunnel ≡ None }
         requires bus { next_frame (world self.old) ≡ None }
         requires gateway { due_of (gateway_expired (world self.old).tunnel.gateway (now (world self.old))) ≡ due.Nothing }
         ensures turns { IfOk result (λ turn. Turns turn left self.old self.new) }

@@ -27,7 +27,7 @@ use line_sim::Due;
 impl Run {
     /// The age of the gateway's datagram that goes next.
     pub fn age_down(&self) -> Option<usize>
-        ensures value { result ≡ next_down (mode (seen self.now)) (world self.now) }
+        ensures value { result ≡ next_down (mode (seen self.now)) (world self.now).tunnel }
         ensures deliverable { IfSome result (λ age. OfSent IsDeliverable (slice_get self.now.line.tunnel.down.kept age)) }
         ensures may { IfSome result (λ age. MayHappen (mode (seen self.now)) (world self.now) (Down age)) }
     {
@@ -37,7 +37,7 @@ impl Run {
     /// The gateway's datagram that goes next is lost, or the client gets it.
     pub fn next_down(&mut self, age: usize) -> Result<Turn, NoMemory>
         requires free { NothingCalled (seen self.old) }
-        requires next { next_down (mode (seen self.old)) (world self.old) ≡ Some age }
+        requires next { next_down (mode (seen self.old)) (world self.old).tunnel ≡ Some age }
         requires deliverable { OfSent IsDeliverable (slice_get self.old.line.tunnel.down.kept age) }
         requires may { MayHappen (mode (seen self.old)) (world self.old) (Down age) }
         ensures turns { IfOk result (λ turn. (left : ℕ) → Turns turn left self.old self.new) }
@@ -53,7 +53,7 @@ impl Run {
 
     fn loses_down(&self, age: usize) -> bool
         requires free { NothingCalled (seen self.now) }
-        requires next { next_down (mode (seen self.now)) (world self.now) ≡ Some age }
+        requires next { next_down (mode (seen self.now)) (world self.now).tunnel ≡ Some age }
         requires may { MayHappen (mode (seen self.now)) (world self.now) (Down age) }
         ensures lost { IsTrue result → IsRight self.now (LoseDown age) }
         ensures got { IsFalse result → IsRight self.now (Down age) }
@@ -63,7 +63,7 @@ impl Run {
 
     /// The age of the client's datagram that goes next.
     pub fn age_up(&self) -> Option<usize>
-        ensures value { result ≡ next_up (world self.now) }
+        ensures value { result ≡ next_up (world self.now).tunnel }
         ensures deliverable { IfSome result (λ age. OfSent IsDeliverable (slice_get self.now.line.tunnel.up.kept age)) }
         ensures may { IfSome result (λ age. MayHappen (mode (seen self.now)) (world self.now) (Up age)) }
     {
@@ -73,7 +73,7 @@ impl Run {
     /// The client's datagram that goes next is lost, or delivered.
     pub fn next_up(&mut self, age: usize) -> Result<(), NoMemory>
         requires free { NothingCalled (seen self.old) }
-        requires next { next_up (world self.old) ≡ Some age }
+        requires next { next_up (world self.old).tunnel ≡ Some age }
         requires deliverable { OfSent IsDeliverable (slice_get self.old.line.tunnel.up.kept age) }
         requires may { MayHappen (mode (seen self.old)) (world self.old) (Up age) }
         ensures happens { OnOk result (Happens self.old self.new) }
@@ -88,7 +88,7 @@ impl Run {
 
     fn loses_up(&self, age: usize) -> bool
         requires free { NothingCalled (seen self.now) }
-        requires next { next_up (world self.now) ≡ Some age }
+        requires next { next_up (world self.now).tunnel ≡ Some age }
         requires may { MayHappen (mode (seen self.now)) (world self.now) (Up age) }
         ensures lost { IsTrue result → IsRight self.now (LoseUp age) }
         ensures comes { IsFalse result → IsRight self.now (delivered self.now age) }

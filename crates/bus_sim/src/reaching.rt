@@ -17,7 +17,7 @@ use line_sim::Line;
 
 /// The age of the gateway's datagram that goes next.
 pub fn next_down(line: &Line, clients: Clients) -> Option<usize>
-    ensures value { (w : World) → IsNow line.now w → result ≡ next_down (mode_of clients) w }
+    ensures value { (w : World) → IsNow line.now w → result ≡ next_down (mode_of clients) w.tunnel }
     ensures deliverable { IfSome result (λ age. OfSent IsDeliverable (slice_get line.now.tunnel.down.kept age)) }
     ensures allowed { IfSome result (λ age. Allows (mode_of clients) line.now (Down age)) }
 {
@@ -29,7 +29,7 @@ pub fn next_down(line: &Line, clients: Clients) -> Option<usize>
 
 /// The age of the gateway's datagram of a number, where it was delivered once and may be delivered once more.
 pub fn again_down(line: &Line, clients: Clients, number: u64) -> Option<usize>
-    ensures possible { (w : World) → IsNow line.now w → CanTell number w.tunnel.network.down → is_some result ≡ passes_again (goes_down (mode_of clients) w) w.tunnel.network.down number }
+    ensures possible { (w : World) → IsNow line.now w → CanTell number w.tunnel.network.down → is_some result ≡ passes_again (goes_down (mode_of clients) w.tunnel) w.tunnel.network.down number }
     ensures age { IfSome result (λ age. (w : World) → IsNow line.now w → CanTell number w.tunnel.network.down → age ≡ age_of w.tunnel.network.down number) }
     ensures deliverable { IfSome result (λ age. OfSent IsDeliverable (slice_get line.now.tunnel.down.kept age)) }
     ensures allowed { IfSome result (λ age. Allows (mode_of clients) line.now (Down age)) }

@@ -7,16 +7,16 @@ use Rattle.knx_model.specs.declared.frames.ip.IpFrame.TheVariants.{ConnectReques
 use Rattle.line_model.specs.Reading.{datagram_in, disconnect_request_in, is_connect_request}
 use Rattle.line_model.specs.Network.{Sent, IsUnderWay, MayReach, changed_at, once_more}
 use Rattle.line_model.specs.Gateway.{Channel, gateway_took}
-use Rattle.line_model.specs.Tunnel.{Tunnel, Send, Up as Arrives, Down as Reaches, after, takes_frame, takes_sent, with_up, made}
+use Rattle.line_model.specs.Tunnel.{Tunnel, Send, Up as Arrives, Down as Reaches, after, takes_frame, takes_sent, with_up, made, Commissions}
 use Rattle.line_model.specs.Record.{Entry, Item, Put, Got, entry, got, is_renewal}
 use Rattle.line_model.specs.ChannelLost.{has_left, has_lapsed, is_lost}
 use Rattle.line_model.specs.ClientView.{ClientChannel, Fresh, Open, Lost, after_entry, channel}
 use Rattle.line_model.specs.Sendings.{IsRightFrame}
 use Rattle.line_model.specs.Closing.{is_open}
 use Rattle.line_model.specs.Leaves.{StaysOpen}
-use Rattle.line_model.specs.Deliveries.{is_under_way, or_here, oldest}
+use Rattle.line_model.specs.Deliveries.{is_under_way, or_here, oldest, next_up, next_down}
+use Rattle.line_model.specs.Fresh.{TunnelSettled}
 use Rattle.std.specs.Prelude.{is_some}
-use Rattle.calm_law.specs.CalmTunnel.{next_up, next_down, IsSettled}
 use Rattle.calm_law.proofs.Ways.{IsNew, Way, Took, taken, settled}
 use Rattle.calm_law.proofs.Tokens.{Fall, Left, fallen, read_down}
 use Rattle.calm_law.proofs.Seen.{IsOpen, seen, seen_after, up_put, asks_on}
@@ -178,7 +178,7 @@ pub record Part (r : List Entry) (t : Tunnel) (age : ℕ) : Type 0 where
   pub is : got (slice_get t.network.down age) ≡ Some item
   pub so : Parted (entry item t.now ∷ r) (after t (Reaches age)) ⊎ Gone (entry item t.now ∷ r)
 
-pub parted_down : (r : List Entry) (t : Tunnel) (age : ℕ) → Parted r t → next_down t ≡ Some age → Part r t age
+pub parted_down : (r : List Entry) (t : Tunnel) (age : ℕ) → Parted r t → next_down Commissions t ≡ Some age → Part r t age
 parted_down r t age p next =
     let few : length p.older ≤ 9 = p.few in
     let w : Took Fall read_down fallen (Left p.status ∷ p.older) t.network.down 0 age
@@ -229,7 +229,7 @@ parted_down r t age p next =
 
 -- ---- no time passes meanwhile
 
-pub parted_pass : (r : List Entry) (t : Tunnel) → Parted r t → IsSettled t → ⊥
+pub parted_pass : (r : List Entry) (t : Tunnel) → Parted r t → TunnelSettled Commissions t → ⊥
 parted_pass r t p is =
     let none : Left p.status ∷ p.older ≡ []
     = settled Fall read_down fallen (λ l age. MayReach t.present (made t) l age) (λ f s l new. (under_way f s new, new.from ∙ sym p.up.at)) (Left p.status ∷ p.older) t.network.down p.falling is.down in

@@ -12,7 +12,7 @@ use Rattle.knx_model.specs.Connection.{has_passed}
 use Rattle.line_model.specs.Reading.{datagram_in, ldata_in, is_con}
 use Rattle.line_model.specs.Network.{Sent, IsUnderWay, MayArrive, MayReach}
 use Rattle.line_model.specs.Gateway.{Nothing, Channel, request_expired, channel_expired}
-use Rattle.line_model.specs.Tunnel.{Tunnel, Renew, Carried, Heard, Pass, after}
+use Rattle.line_model.specs.Tunnel.{Tunnel, Renew, Carried, Heard, Pass, after, Commissions}
 use Rattle.line_model.specs.World.{on_bus}
 use Rattle.line_model.specs.Record.{Entry, Renewed, Quiet, entry}
 use Rattle.line_model.specs.ChannelLost.{is_confirmation, is_confirmation_of, is_unconfirmed}
@@ -21,8 +21,9 @@ use Rattle.line_model.specs.Renews.{MayLeave, IsOwed, last_beat, to_poll_before}
 use Rattle.line_model.specs.LinkStory.{newest_time}
 use Rattle.line_model.specs.Haste.{is_beat_overdue}
 use Rattle.line_model.specs.Asks.{HasPlace}
+use Rattle.line_model.specs.Fresh.{TunnelSettled}
 use Rattle.line_model.specs.Undisturbed.{AwaitsNothing}
-use Rattle.calm_law.specs.CalmTunnel.{Confirms, IsIndication, IsSettled}
+use Rattle.calm_law.specs.CalmTunnel.{Confirms, IsIndication}
 use Rattle.calm_law.proofs.Ways.{IsNew, settled}
 use Rattle.calm_law.proofs.Tokens.{Rise, Fall, risen, fallen, read_down}
 use Rattle.calm_law.proofs.Seen.{Seen, IsOpen, seen, up_quiet, lapsed}
@@ -337,7 +338,7 @@ module _ (E F : Option Ldata → List Ldata → Type 0) (r : List Entry) (presen
     under_way : (made : ℕ) (read : List ℕ → Option IpFrame) (frame : IpFrame) (s : Sent) → made ≤ 1 → IsNew read frame s → IsUnderWay made 0 s
     under_way made read frame s few new = let u : s.delivered ≡ 0 = new.undelivered in record { kept = new.kept; twice = omega (arith, u); young = omega arith; soon = omega (arith, few) }
 
-    pub pass_kept : (door : Door) (stage : Stage) (under : Under) (pulse : Pulse) (m : Nums) (ups : List Rise) (downs : List Fall) → Now door stage under pulse m ups downs → IsPut door under waiting → IsSettled (here door stage under m) → Passed door stage under m
+    pub pass_kept : (door : Door) (stage : Stage) (under : Under) (pulse : Pulse) (m : Nums) (ups : List Rise) (downs : List Fall) → Now door stage under pulse m ups downs → IsPut door under waiting → TunnelSettled Commissions (here door stage under m) → Passed door stage under m
     pass_kept door stage under pulse m ups downs h put is =
         let few = one_maker E r present up up down waiting me acted puts now door in
         let no_ups : ups ≡ [] = settled Rise datagram_in risen (λ l age. MayArrive (length (makers_at door)) l age) (λ u s l new. under_way (length (makers_at door)) datagram_in (risen u) s few new) ups up h.rising is.up in

@@ -118,9 +118,11 @@ settled_for : (kept : NonVolatile) → SettledFor Commissions (last kept) 1
 unfolding datagram_in ldata_in gateway_took frame_in device_took device_after device_answered after_answer apdu_in tpdu_in service_in
 settled_for kept = record {
   settled = record {
-    up = λ age s e. inl (all_over (last kept).tunnel.network.up (omega arith, (omega arith, (omega arith, (omega arith, (omega arith, (omega arith, (omega arith, (omega arith, (omega arith, (omega arith, (omega arith, tt))))))))))) age s e);
-    down = λ age s e. inl (all_over (last kept).tunnel.network.down (omega arith, (omega arith, (omega arith, (omega arith, (omega arith, (omega arith, (omega arith, (omega arith, (omega arith, (omega arith, (omega arith, tt))))))))))) age s e);
-    bus = refl;
+    tunnel = record {
+      up = λ age s e. inl (all_over (last kept).tunnel.network.up (omega arith, (omega arith, (omega arith, (omega arith, (omega arith, (omega arith, (omega arith, (omega arith, (omega arith, (omega arith, (omega arith, tt))))))))))) age s e);
+      down = λ age s e. inl (all_over (last kept).tunnel.network.down (omega arith, (omega arith, (omega arith, (omega arith, (omega arith, (omega arith, (omega arith, (omega arith, (omega arith, (omega arith, (omega arith, tt))))))))))) age s e);
+      bus = refl;
+    };
     nothing_to_send = nothing_due kept;
   };
   still = λ t lt. (let z : 0 ≡ now (last kept) + t = later t lt (now_is kept) in subst (λ n. HasNothingToSend (last kept) n) z (nothing_due kept));

@@ -11,13 +11,12 @@ use Rattle.knx_model.specs.Connection.{has_passed}
 use Rattle.line_model.specs.Reading.{ldata_in, request_in, disconnect_request_in}
 use Rattle.line_model.specs.Network.{Sent, changed_at, once_more}
 use Rattle.line_model.specs.Gateway.{next_number}
-use Rattle.line_model.specs.Tunnel.{Tunnel, Down as Arrives, after}
+use Rattle.line_model.specs.Tunnel.{Tunnel, Down as Arrives, after, Commissions}
 use Rattle.line_model.specs.Record.{Entry, Item, Got, entry, got, got_in}
 use Rattle.line_model.specs.ChannelLost.{expected, last_frame, is_confirmation_of, is_given_up, is_unconfirmed, is_dead, is_lost}
 use Rattle.line_model.specs.ClientView.{ClientChannel, Sought, Open, Deed, Takes, Loses, Nothing, own_address, is_stray, as_counted, counts, deed, deed_in, after_entry, channel}
 use Rattle.line_model.specs.Renews.{owed, owed_in, calls_for, IsOwed}
-use Rattle.line_model.specs.Deliveries.{is_under_way}
-use Rattle.calm_law.specs.CalmTunnel.{next_down}
+use Rattle.line_model.specs.Deliveries.{is_under_way, next_down}
 use Rattle.calm_law.proofs.Ways.{Way, Took, taken, none_left}
 use Rattle.calm_law.proofs.Tokens.{Rise, Fall, Made, Ack, Note, Alive, Left, Downs, fallen, read_down, made_of, ack_of, note_of, alive_of, left_of, same_last, only_last, not_last, downs_none}
 use Rattle.calm_law.proofs.Seen.{Seen, IsOpen, Up, seen, seen_after, lapsed, ended, not_lost, up_got, and_no, neither}
@@ -453,7 +452,7 @@ module _ (E F : Option Ldata → List Ldata → Type 0) (r : List Entry) (presen
       free (Owed y) f = absurd f
       free (Back y) f = absurd f
 
-  down_open : (door : Door) (stage : Stage) (under : Under) (pulse : Pulse) (m : Nums) (ups : List Rise) (downs : List Fall) → present ≡ 1 → Now door stage under pulse m ups downs → (age : ℕ) → next_down (before_it door stage under m) ≡ Some age
+  down_open : (door : Door) (stage : Stage) (under : Under) (pulse : Pulse) (m : Nums) (ups : List Rise) (downs : List Fall) → present ≡ 1 → Now door stage under pulse m ups downs → (age : ℕ) → next_down Commissions (before_it door stage under m) ≡ Some age
       → ((item : Item) → got (slice_get down age) ≡ Some item → MayDo r (entry item now)) → ((item : Item) → got (slice_get down age) ≡ Some item → Steps E F (deed (channel r) (entry item now))) → Strays E F (channel r) (channel_at door (the_channel stage under m now)) → GotSo F r (before_it door stage under m) age
   down_open door stage under pulse m ups downs at1 h age next may to strays =
       let few = downs_short E r present up up down waiting me acted puts now door stage under pulse m ups downs h in
@@ -475,7 +474,7 @@ module _ (E F : Option Ldata → List Ldata → Type 0) (r : List Entry) (presen
       passes : (b : Bool) (e : ℕ) → b ≡ true → e ≡ present → (b && (e == present)) ≡ true
       passes b e p q = rw (p, eq-eqb e present q) refl
 
-  pub down_kept : (door : Door) (stage : Stage) (under : Under) (pulse : Pulse) (m : Nums) (ups : List Rise) (downs : List Fall) → Now door stage under pulse m ups downs → (age : ℕ) → next_down (before_it door stage under m) ≡ Some age
+  pub down_kept : (door : Door) (stage : Stage) (under : Under) (pulse : Pulse) (m : Nums) (ups : List Rise) (downs : List Fall) → Now door stage under pulse m ups downs → (age : ℕ) → next_down Commissions (before_it door stage under m) ≡ Some age
       → ((item : Item) → got (slice_get down age) ≡ Some item → MayDo r (entry item now)) → ((item : Item) → got (slice_get down age) ≡ Some item → Steps E F (deed (channel r) (entry item now))) → Strays E F (channel r) (channel_at door (the_channel stage under m now)) → GotSo F r (before_it door stage under m) age
   down_kept Shut stage under pulse m ups downs h age next may to strays =
       let none : downs ≡ [] = none_yet stage under pulse m ups downs h in

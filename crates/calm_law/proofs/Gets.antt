@@ -11,12 +11,11 @@ use Rattle.knx_model.specs.Cemi.{Written as cemi_octets}
 use Rattle.line_model.specs.Reading.{ldata_in}
 use Rattle.line_model.specs.Gateway.{Channel}
 use Rattle.line_model.specs.Network.{Sent}
-use Rattle.line_model.specs.Tunnel.{Tunnel}
+use Rattle.line_model.specs.Tunnel.{Tunnel, Commissions}
 use Rattle.line_model.specs.Record.{Entry, Got, got, got_in}
 use Rattle.line_model.specs.ChannelLost.{Own, own, confirmed, last_frame, expected, beats, is_confirmation, is_confirmation_of}
 use Rattle.line_model.specs.ClientView.{ClientChannel, Sought, Open, channel}
-use Rattle.line_model.specs.Deliveries.{is_under_way}
-use Rattle.calm_law.specs.CalmTunnel.{next_down}
+use Rattle.line_model.specs.Deliveries.{is_under_way, next_down}
 use Rattle.calm_law.proofs.Ways.{Way, Took, taken, none_left}
 use Rattle.calm_law.proofs.Tokens.{Rise, Fall, Made, Ack, Note, Alive, Left, fallen, read_down, made_of, ack_of, note_of, alive_of, left_of, only_last, not_last}
 use Rattle.calm_law.proofs.Seen.{Seen}
@@ -127,7 +126,7 @@ module _ (E : Option Ldata → List Ldata → Type 0) (r : List Entry) (present 
   abbrev Now : Door → Stage → Under → Pulse → Nums → List Rise → List Fall → Type 0
   Now door stage under pulse m ups downs = Goes E door stage under pulse m ups downs r present up down waiting now
 
-  open_kind : (door : Door) (stage : Stage) (under : Under) (pulse : Pulse) (m : Nums) (ups : List Rise) (downs : List Fall) → present ≡ 1 → Now door stage under pulse m ups downs → (age : ℕ) → next_down (before_it door stage under m) ≡ Some age → KindSo r (before_it door stage under m) age
+  open_kind : (door : Door) (stage : Stage) (under : Under) (pulse : Pulse) (m : Nums) (ups : List Rise) (downs : List Fall) → present ≡ 1 → Now door stage under pulse m ups downs → (age : ℕ) → next_down Commissions (before_it door stage under m) ≡ Some age → KindSo r (before_it door stage under m) age
   open_kind door stage under pulse m ups downs at1 h age next =
       let few = downs_short E r present up up down waiting me acted puts now door stage under pulse m ups downs h in
       let t : Took Fall read_down fallen downs down 0 age
@@ -142,7 +141,7 @@ module _ (E : Option Ldata → List Ldata → Type 0) (r : List Entry) (present 
       passes : (b : Bool) (e : ℕ) → b ≡ true → e ≡ present → (b && (e == present)) ≡ true
       passes b e p q = rw (p, eq-eqb e present q) refl
 
-  pub down_kind : (door : Door) (stage : Stage) (under : Under) (pulse : Pulse) (m : Nums) (ups : List Rise) (downs : List Fall) → Now door stage under pulse m ups downs → (age : ℕ) → next_down (before_it door stage under m) ≡ Some age → KindSo r (before_it door stage under m) age
+  pub down_kind : (door : Door) (stage : Stage) (under : Under) (pulse : Pulse) (m : Nums) (ups : List Rise) (downs : List Fall) → Now door stage under pulse m ups downs → (age : ℕ) → next_down Commissions (before_it door stage under m) ≡ Some age → KindSo r (before_it door stage under m) age
   down_kind Shut stage under pulse m ups downs h age next =
       let none : downs ≡ [] = none_yet E E r present up down waiting me acted puts now stage under pulse m ups downs h in
       let way : Way Fall read_down fallen [] down = subst (λ l. Way Fall read_down fallen l down) none h.falling in
@@ -151,6 +150,6 @@ module _ (E : Option Ldata → List Ldata → Type 0) (r : List Entry) (present 
   down_kind Replied stage under pulse m ups downs h age next = open_kind Replied stage under pulse m ups downs h.door_is.0.at h age next
   down_kind (Ajar leaves) stage under pulse m ups downs h age next = open_kind (Ajar leaves) stage under pulse m ups downs h.door_is.at h age next
 
-pub lives_kind : (E : Option Ldata → List Ldata → Type 0) (r : List Entry) (t : Tunnel) → Going E r t → (age : ℕ) → next_down t ≡ Some age → KindSo r t age
+pub lives_kind : (E : Option Ldata → List Ldata → Type 0) (r : List Entry) (t : Tunnel) → Going E r t → (age : ℕ) → next_down Commissions t ≡ Some age → KindSo r t age
 lives_kind E r t g age next =
-    subst (λ (z : Tunnel). next_down z ≡ Some age → KindSo r z age) (sym g.is) (λ n. down_kind E r g.present g.up g.down g.waiting g.me g.acted g.puts g.now g.door g.stage g.under g.pulse g.m g.ups g.downs g.goes age n) next
+    subst (λ (z : Tunnel). next_down Commissions z ≡ Some age → KindSo r z age) (sym g.is) (λ n. down_kind E r g.present g.up g.down g.waiting g.me g.acted g.puts g.now g.door g.stage g.under g.pulse g.m g.ups g.downs g.goes age n) next

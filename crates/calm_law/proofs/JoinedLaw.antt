@@ -376,19 +376,19 @@ module _ (jobs : List Job) (turns : List GroupTurn) (start : World) (served : (k
       none_yet a h = by_inv s.so.goes where
         by_inv : Inv E (entries places) w.tunnel → stretches a (after h.since (moments places)) ≡ []
         by_inv (inl l) =
-            elim (lives_rides E (entries places) w.tunnel (suc ms) l (record { up = c.settled.up; down = c.settled.down; bus = c.settled.bus }) may) [
+            elim (lives_rides E (entries places) w.tunnel (suc ms) l c.settled.tunnel may) [
               | inl fresh ↦ (let x = ridden E (entries places) w.tunnel l in subst (λ z. stretches a z ≡ []) (x.so.held a h).since_is (x.so.fresh fresh a))
               | inr r ↦
                   subst (λ z. stretches a z ≡ []) (r.0.held a h).since_is
                   (none_began jobs then start on_line (me w) m now_log places (upto_next start past) early w.devices s.there w.tunnel s.newest (λ b d is. c.settled.nothing_to_send.devices b d is) busy [] (inr (refl, r.1)) r.0 a h)
             ]
-        by_inv (inr (inl p)) = absurd (parted_pass (entries places) w.tunnel p (record { up = c.settled.up; down = c.settled.down; bus = c.settled.bus }))
+        by_inv (inr (inl p)) = absurd (parted_pass (entries places) w.tunnel p c.settled.tunnel)
         by_inv (inr (inr g)) = absurd (none_held jobs turns now_log h.number h.worker h.since h.job (s.so.finished g.asked) h.there h.held)
 
       idle : IsIdle jobs now_log places
       idle =
           record {
-            channel_is = idle_of E (entries places) w.tunnel (suc ms) s.so.goes (record { up = c.settled.up; down = c.settled.down; bus = c.settled.bus }) may;
+            channel_is = idle_of E (entries places) w.tunnel (suc ms) s.so.goes c.settled.tunnel may;
             jobs_are = λ k worker since upto job there held. none_between job.device.raw since upto (moments places) (none_yet job.device.raw (record { number = k; job = job; worker = worker; since = since; there = there; of_device = refl; held = held }));
           }
 
@@ -419,7 +419,7 @@ module _ (jobs : List Job) (turns : List GroupTurn) (start : World) (served : (k
     times_pass : (ms : ℕ) → line.IsCalm w (Pass ms) → MayDo (entries places) (entry Quiet (w.tunnel.now + ms)) → IsSo jobs turns log (placed_if (suc m) (w.tunnel.now + ms) (Some Quiet) places) → Times jobs then turns start served on_line m now_log places (moments_upto start past) (upto_next start past) early w ms
     times_pass ms c may so =
         record {
-          nothing = quiet_nothing (channel (entries places)) (w.tunnel.now + ms) (idle_of E (entries places) w.tunnel ms s.so.goes (record { up = c.settled.up; down = c.settled.down; bus = c.settled.bus }) may);
+          nothing = quiet_nothing (channel (entries places)) (w.tunnel.now + ms) (idle_of E (entries places) w.tunnel ms s.so.goes c.settled.tunnel may);
           back = fresh_before (channel (entries places)) (entry Quiet (w.tunnel.now + ms)) refl;
           busy = by_ms ms so;
         }

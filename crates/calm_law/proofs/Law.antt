@@ -11,10 +11,11 @@ use Rattle.line_model.specs.ClientView.{ClientChannel, Open, channel, Fresh, Dee
 use Rattle.line_model.specs.Renews.{RenewsRightly, AcknowledgesRightly, MayLeave}
 use Rattle.line_model.specs.Sendings.{SendsRightly}
 use Rattle.line_model.specs.Follows.{IsGatewayRepeat, IsGatewayClosing}
+use Rattle.line_model.specs.Fresh.{TunnelSettled}
 use Rattle.line_model.specs.Asks.{HasPlace}
 use Rattle.line_model.specs.Haste.{KeepsPaces}
 use Rattle.line_model.specs.Undisturbed.{AwaitsNothing}
-use Rattle.calm_law.specs.CalmTunnel.{IsCalm, AreCalm, IsSettled, PutsRightly, PassesSo, PassesIdly, IsKept, KeepsItsChannel}
+use Rattle.calm_law.specs.CalmTunnel.{IsCalm, AreCalm, PutsRightly, PassesSo, PassesIdly, IsKept, KeepsItsChannel}
 use Rattle.calm_law.proofs.Tokens.{Rise, Fall}
 use Rattle.calm_law.proofs.State.{Door, Shut, Knocked, Replied, Ajar, Stage, Past, Under, Free, Pulse, Calm, Nums, DoorIs, Goes, Going, going, Lives, lives, Steps, Strays, rides_over, IsPut, tunnel_at}
 use Rattle.calm_law.proofs.Puts.{puts_kept}
@@ -70,7 +71,7 @@ module _ (E F : Option Ldata → List Ldata → Type 0) (r : List Entry) (presen
   got_case : (age : ℕ) → GotSo F r t age → InvA F (noted (got (slice_get down age)) now r) (after t (Down age))
   got_case age g = let P : Option Item → Type 0 = λ o. InvA F (noted o now r) (after t (Down age)) in subst P (sym g.is) (inl g.going_on)
 
-  at : (ms : ℕ) → IsSettled t → IsPut door under waiting → MayDo r (entry Quiet (now + ms)) → RidesOn E F r t (Pass ms) → InvA F (entry Quiet (now + ms) ∷ r) (after t (Pass ms))
+  at : (ms : ℕ) → TunnelSettled Commissions t → IsPut door under waiting → MayDo r (entry Quiet (now + ms)) → RidesOn E F r t (Pass ms) → InvA F (entry Quiet (now + ms) ∷ r) (after t (Pass ms))
   at ms is put may to = inl (pass_kept E F r present up down waiting me acted putted now ms may to door stage under pulse m ups downs h put is).1
 
   by_event : IsPut door under waiting → (e : TunnelEvent) → Kept E F r e t
@@ -94,18 +95,18 @@ lives_kept E F r t e l =
     let g : Going E r t = l.going in
     subst (Kept E F r e) (sym g.is) (by_event E F r g.present g.up g.down g.waiting g.me g.acted g.puts g.now g.door g.stage g.under g.pulse g.m g.ups g.downs g.goes l.put e)
 
-lives_idle : (E : Option Ldata → List Ldata → Type 0) (r : List Entry) (t : Tunnel) (ms : ℕ) → Lives E r t → IsSettled t → MayDo r (entry Quiet (t.now + ms)) → AwaitsNothing (channel r)
+lives_idle : (E : Option Ldata → List Ldata → Type 0) (r : List Entry) (t : Tunnel) (ms : ℕ) → Lives E r t → TunnelSettled Commissions t → MayDo r (entry Quiet (t.now + ms)) → AwaitsNothing (channel r)
 lives_idle E r t ms l is may =
     let g : Going E r t = l.going in
-    let P : Tunnel → Type 0 = λ z. IsSettled z → MayDo r (entry Quiet (z.now + ms)) → AwaitsNothing (channel r) in
+    let P : Tunnel → Type 0 = λ z. TunnelSettled Commissions z → MayDo r (entry Quiet (z.now + ms)) → AwaitsNothing (channel r) in
     subst P (sym g.is) (λ s d. (pass_kept E E r g.present g.up g.down g.waiting g.me g.acted g.puts g.now ms d (λ q w e. e) g.door g.stage g.under g.pulse g.m g.ups g.downs g.goes l.put s).0) is may
 
 -- and what rides on it is said with nothing on its way, where a channel is open
-pub lives_rides : (E : Option Ldata → List Ldata → Type 0) (r : List Entry) (t : Tunnel) (ms : ℕ) → Lives E r t → IsSettled t → MayDo r (entry Quiet (t.now + ms)) → (channel r ≡ Fresh) ⊎ (E None [] × HasPlace (channel r))
+pub lives_rides : (E : Option Ldata → List Ldata → Type 0) (r : List Entry) (t : Tunnel) (ms : ℕ) → Lives E r t → TunnelSettled Commissions t → MayDo r (entry Quiet (t.now + ms)) → (channel r ≡ Fresh) ⊎ (E None [] × HasPlace (channel r))
 lives_rides E r t ms l is may =
     let g : Going E r t = l.going in
     let F : Option Ldata → List Ldata → Type 0 = λ fly q. (channel r ≡ Fresh) ⊎ (E None [] × HasPlace (channel r)) in
-    let P : Tunnel → Type 0 = λ z. IsSettled z → MayDo r (entry Quiet (z.now + ms)) → (channel r ≡ Fresh) ⊎ (E None [] × HasPlace (channel r)) in
+    let P : Tunnel → Type 0 = λ z. TunnelSettled Commissions z → MayDo r (entry Quiet (z.now + ms)) → (channel r ≡ Fresh) ⊎ (E None [] × HasPlace (channel r)) in
     subst P (sym g.is)
     (λ s d. (let n = (pass_kept E F r g.present g.up g.down g.waiting g.me g.acted g.puts g.now ms d (λ q w e. with_it q w e) g.door g.stage g.under g.pulse g.m g.ups g.downs g.goes l.put s).1 in n.goes.rides)) is may
   where
@@ -171,7 +172,7 @@ step_kept E F r t e inv can calm may to =
 
 -- ---- where time passes
 
-pub idle_of : (E : Option Ldata → List Ldata → Type 0) (r : List Entry) (t : Tunnel) (ms : ℕ) → Inv E r t → IsSettled t → MayDo r (entry Quiet (t.now + ms)) → AwaitsNothing (channel r)
+pub idle_of : (E : Option Ldata → List Ldata → Type 0) (r : List Entry) (t : Tunnel) (ms : ℕ) → Inv E r t → TunnelSettled Commissions t → MayDo r (entry Quiet (t.now + ms)) → AwaitsNothing (channel r)
 idle_of E r t ms (inl l) is may = lives_idle E r t ms l is may
 idle_of E r t ms (inr (inl p)) is may = absurd (parted_pass r t p is)
 idle_of E r t ms (inr (inr g)) is may = subst AwaitsNothing (sym g.lost) tt

@@ -75,7 +75,7 @@ module _ (w : World) where
   event_calm GwClose own c short = c
   event_calm (Cut device) own c short = absurd c
   event_calm (On device) own c short = absurd c
-  event_calm (Pass ms) own c short = record { up = c.settled.up; down = c.settled.down; bus = c.settled.bus }
+  event_calm (Pass ms) own c short = c.settled.tunnel
 
 -- ---- all events
 

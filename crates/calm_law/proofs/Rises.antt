@@ -12,9 +12,8 @@ use Rattle.line_model.specs.Network.{Sent, new_datagram, changed_at, once_more}
 use Rattle.line_model.specs.Gateway.{next_number, gateway_took}
 use Rattle.line_model.specs.Tunnel.{Tunnel, Up as Arrives, after, takes_frame, takes_sent}
 use Rattle.line_model.specs.Record.{Entry}
-use Rattle.line_model.specs.Deliveries.{is_under_way}
+use Rattle.line_model.specs.Deliveries.{is_under_way, next_up}
 use Rattle.tunnel_law.proofs.Read.{response_seen, state_seen, ack_seen, disconnected_seen}
-use Rattle.calm_law.specs.CalmTunnel.{next_up}
 use Rattle.calm_law.proofs.Ways.{IsNew, Way, Took, taken}
 use Rattle.calm_law.proofs.Tokens.{Rise, Fall, Ask, Tell, Receipt, Beat, Leave, Made, Ack, Alive, Ups, Downs, risen, ask_of, tell_of, receipt_of, beat_of, leave_of, same_last, only_last, not_last, ups_few, downs_few, downs_none}
 use Rattle.calm_law.proofs.State.{Door, Shut, Knocked, Replied, Ajar, Stage, Rising, Riding, Past, Under, Free, Coming, Owed, Back, Pulse, Calm, Beating, Echo, Nums, asks_at, tells_at, receipts_at, beats_at, leaves_at, mades_at, acks_at, notes_at, alives_at, makers_at, ack_if, seen_at, awaited, cons_in, BeatIs, Early, Goes, Going, going, tunnel_at}

@@ -16,7 +16,7 @@ use Rattle.line_model.specs.Tunnel.{Commissions}
 use Rattle.line_model.specs.World.{World, Event, Send, From, Renew, Up, UpRefused, Down, LoseUp, LoseDown, Bus, BusTorn, BusWorn, BusAgain, DevSend, DevRepeat, DevClose, GwAgain, GwRepeat, GwClose, Cut, On, Pass, next_frame, replay}
 use Rattle.line_model.specs.Legal.{MayHappen, IsLegal}
 use Rattle.line_model.specs.Counts.{is_connect_at, frames_to, connects_reached}
-use Rattle.line_model.specs.Lines.{Script, says, or_later, first_said, says_lose_up, says_lose_down, says_repeat_up, says_repeat_down, says_lose_to, says_lose_from, says_repeat_to, says_worn, says_close, says_drop, cut_at, status_at, loses_up, loses_down, repeats_up, repeats_down, loses_to, loses_from, repeats_to, wears, closes, drops, cuts, refuses}
+use Rattle.line_model.specs.Lines.{Script, is_line, has_line, or_later, first_said, cut_at, status_at, loses_up, loses_down, repeats_up, repeats_down, loses_to, loses_from, repeats_to, wears, closes, drops, cuts, refuses}
 use Rattle.line_model.specs.Deliveries.{refused_if, delivery, worn_if, write_event, carried_to, carriage_of}
 use Rattle.line_model.specs.Owed.{Owed, owed_if, up_again, channel_closes, connection_closes, frame_again, power_returns, owed_of_frame, owed_of_carried, caused, is_possible, is_clients, left_after, owed}
 use Rattle.line_model.specs.Follows.{at_gateway, IsInPlace, IsNext, Follows}
@@ -30,11 +30,20 @@ by_line P a b (line.Standard d) h = a d
 by_line P a b (line.Group after group service) h = b after group service
 by_line P a b w h = absurd (cc)
 
-said_not : (test : ScriptWhat → Bool) → ((w : ScriptWhat) → is_undisturbing w ≡ true → test w ≡ false) → (script : Script) → IsUndisturbed script → says test script ≡ false
-said_not test not_it [] h = refl
-said_not test not_it (w ∷ script) h =
+-- what a line that disturbs says, none of them says
+standard_not : (what : ScriptWhat) (d : IndAddr) → is_undisturbing what ≡ false → is_line what (line.Standard d) ≡ false
+standard_not (line.Standard a) d h = absurd (cc)
+standard_not _ d h = refl
+
+group_not : (what : ScriptWhat) (after : Bool) (group : GroupAddr) (service : GroupService) → is_line what (line.Group after group service) ≡ false
+group_not (line.LoseUp n) after group service = refl
+group_not _ after group service = refl
+
+pub said_not : (what : ScriptWhat) → is_undisturbing what ≡ false → (script : Script) → IsUndisturbed script → has_line what script ≡ false
+said_not what disturbs [] h = refl
+said_not what disturbs (w ∷ script) h =
     let two = and_parts (is_undisturbing w) (list_all is_undisturbing script) h in
-    either (test w) (says test script) (not_it w two.0) (said_not test not_it script two.1)
+    either (is_line what w) (has_line what script) (by_line (λ w. is_line what w ≡ false) (λ d. standard_not what d disturbs) (group_not what) w two.0) (said_not what disturbs script two.1)
   where
     either : (a b : Bool) → a ≡ false → b ≡ false → (a || b) ≡ false
     either a b p q = rw (p, q) refl
@@ -50,34 +59,34 @@ none_said what not_it (w ∷ script) h =
 
 module _ (script : Script) (nothing : IsUndisturbed script) where
   no_lose_up : (n : ℕ) → loses_up script n ≡ false
-  no_lose_up n = said_not (says_lose_up n) (by_line (λ w. says_lose_up n w ≡ false) (λ d. refl) (λ a g s. refl)) script nothing
+  no_lose_up n = said_not (line.LoseUp n) refl script nothing
 
   no_lose_down : (n : ℕ) → loses_down script n ≡ false
-  no_lose_down n = said_not (says_lose_down n) (by_line (λ w. says_lose_down n w ≡ false) (λ d. refl) (λ a g s. refl)) script nothing
+  no_lose_down n = said_not (line.LoseDown n) refl script nothing
 
   no_repeat_up : (n : ℕ) → repeats_up script n ≡ false
-  no_repeat_up n = said_not (says_repeat_up n) (by_line (λ w. says_repeat_up n w ≡ false) (λ d. refl) (λ a g s. refl)) script nothing
+  no_repeat_up n = said_not (line.RepeatUp n) refl script nothing
 
   no_repeat_down : (n : ℕ) → repeats_down script n ≡ false
-  no_repeat_down n = said_not (says_repeat_down n) (by_line (λ w. says_repeat_down n w ≡ false) (λ d. refl) (λ a g s. refl)) script nothing
+  no_repeat_down n = said_not (line.RepeatDown n) refl script nothing
 
   no_lose_to : (device n : ℕ) → loses_to script device n ≡ false
-  no_lose_to device n = said_not (says_lose_to device n) (by_line (λ w. says_lose_to device n w ≡ false) (λ d. refl) (λ a g s. refl)) script nothing
+  no_lose_to device n = said_not (line.LoseTo (record { raw = device }) n) refl script nothing
 
   no_lose_from : (device n : ℕ) → loses_from script device n ≡ false
-  no_lose_from device n = said_not (says_lose_from device n) (by_line (λ w. says_lose_from device n w ≡ false) (λ d. refl) (λ a g s. refl)) script nothing
+  no_lose_from device n = said_not (line.LoseFrom (record { raw = device }) n) refl script nothing
 
   no_repeat_to : (device n : ℕ) → repeats_to script device n ≡ false
-  no_repeat_to device n = said_not (says_repeat_to device n) (by_line (λ w. says_repeat_to device n w ≡ false) (λ d. refl) (λ a g s. refl)) script nothing
+  no_repeat_to device n = said_not (line.RepeatTo (record { raw = device }) n) refl script nothing
 
   no_worn : (device n : ℕ) → wears script device n ≡ false
-  no_worn device n = said_not (says_worn device n) (by_line (λ w. says_worn device n w ≡ false) (λ d. refl) (λ a g s. refl)) script nothing
+  no_worn device n = said_not (line.Worn (record { raw = device }) n) refl script nothing
 
   no_close : (device n : ℕ) → closes script device n ≡ false
-  no_close device n = said_not (says_close device n) (by_line (λ w. says_close device n w ≡ false) (λ d. refl) (λ a g s. refl)) script nothing
+  no_close device n = said_not (line.CloseAfter (record { raw = device }) n) refl script nothing
 
   no_drop : (n : ℕ) → drops script n ≡ false
-  no_drop n = said_not (says_drop n) (by_line (λ w. says_drop n w ≡ false) (λ d. refl) (λ a g s. refl)) script nothing
+  no_drop n = said_not (line.DropChannel n) refl script nothing
 
   no_cut : (device n : ℕ) → cuts script device n ≡ None
   no_cut device n = none_said (cut_at device n) (by_line (λ w. cut_at device n w ≡ None) (λ d. refl) (λ a g s. refl)) script nothing

@@ -2,33 +2,23 @@
 -- passed; what comes of the bus is the confirmation of the frame that went over it, and indications that fit a tunnelling request; and time passes
 -- only where nothing is under way. And what is asked of the client beside its discipline: each of its requests is an L_Data.req that is put where
 -- the one before is acknowledged and confirmed.
-use Rattle.std.specs.Prelude.{◌≡◌, ℕ, suc, ◌≤◌, Bool, true, ◌&&◌, ◌==◌, List, [], ◌∷◌, length, Option, Some, slice_get}
+use Rattle.std.specs.Prelude.{◌≡◌, ℕ, suc, ◌≤◌, Bool, true, List, [], ◌∷◌, length, Some}
 use Rattle.std.specs.List.{AllByRecursion}
 use Rattle.knx_model.specs.declared.address.IndAddr.{IndAddr}
 use Rattle.knx_model.specs.declared.frames.cemi.Ldata.{Ldata}
 use Rattle.knx_model.specs.declared.frames.cemi.LdataCode.TheVariants.{Con, Ind}
 use Rattle.knx_model.specs.Apdu.{most_octets}
 use Rattle.line_model.specs.Reading.{ldata_in, is_req}
-use Rattle.line_model.specs.Network.{Sent, MayArrive, MayReach}
-use Rattle.line_model.specs.Gateway.{gateway_expired}
-use Rattle.line_model.specs.Tunnel.{Tunnel, TunnelEvent, Send, From, Renew, Up, UpRefused, Down, LoseUp, LoseDown, Carried, Heard, Repeat, Close, Pass, Elsewhere, made, replay}
+use Rattle.line_model.specs.Tunnel.{Tunnel, TunnelEvent, Send, From, Renew, Up, UpRefused, Down, LoseUp, LoseDown, Carried, Heard, Repeat, Close, Pass, Elsewhere, Commissions, replay}
 use Rattle.line_model.specs.World.{on_bus}
-use Rattle.line_model.specs.Deliveries.{is_under_way, oldest}
-use Rattle.line_model.specs.Fresh.{IsOver}
-use Rattle.line_model.specs.Follows.{IsGatewayRepeat, IsGatewayClosing}
+use Rattle.line_model.specs.Deliveries.{next_up, next_down}
+use Rattle.line_model.specs.Fresh.{TunnelSettled}
+use Rattle.line_model.specs.Follows.{IsGatewayRepeat, IsGatewayClosing, gateway_due}
 use Rattle.line_model.specs.Record.{Entry, tunnel_record}
 use Rattle.line_model.specs.ClientView.{ClientChannel, Fresh, Sought, RefusedBy, Unanswered, Open, Lost, Deed, Puts, channel, deed}
 use Rattle.line_model.specs.Asks.{HasPlace}
 use Rattle.line_model.specs.Leaves.{StaysOpen}
 use Rattle.line_model.specs.Undisturbed.{AwaitsNothing}
-
--- ---- datagrams: the oldest that wasn't delivered comes next
-
-abbrev pub next_up : Tunnel → Option ℕ
-next_up t = oldest (λ age s. is_under_way (made t) age s) 0 t.network.up
-
-abbrev pub next_down : Tunnel → Option ℕ
-next_down t = oldest (λ age s. is_under_way (made t) age s && (s.endpoint == t.present)) 0 t.network.down
 
 -- ---- the bus
 
@@ -42,13 +32,6 @@ pub record IsIndication (frame : Ldata) : Type 0 where
   pub code : frame.code ≡ Ind
   pub fits : length frame.tpdu ≤ most_octets
 
--- ---- nothing is under way
-
-pub record IsSettled (t : Tunnel) : Type 0 where
-  pub up : (age : ℕ) (s : Sent) → slice_get t.network.up age ≡ Some s → IsOver (MayArrive (made t) t.network.up age) s
-  pub down : (age : ℕ) (s : Sent) → slice_get t.network.down age ≡ Some s → IsOver (MayReach t.present (made t) t.network.down age) s
-  pub bus : t.gateway.bus ≡ []
-
 -- ---- which events are calm
 
 abbrev pub IsCalm : Tunnel → TunnelEvent → Type 0
@@ -57,14 +40,14 @@ IsCalm t (From endpoint octets) = ⊥
 IsCalm t Renew = Unit {0}
 IsCalm t (Up age) = next_up t ≡ Some age
 IsCalm t (UpRefused age status) = ⊥
-IsCalm t (Down age) = next_down t ≡ Some age
+IsCalm t (Down age) = next_down Commissions t ≡ Some age
 IsCalm t (LoseUp age) = ⊥
 IsCalm t (LoseDown age) = ⊥
 IsCalm t (Carried confirmation) = Confirms t.gateway.tunnel t.gateway.bus confirmation
 IsCalm t (Heard frames) = AllByRecursion IsIndication frames
-IsCalm t Repeat = IsGatewayRepeat (gateway_expired t.gateway t.now)
-IsCalm t Close = IsGatewayClosing (gateway_expired t.gateway t.now)
-IsCalm t (Pass ms) = IsSettled t
+IsCalm t Repeat = IsGatewayRepeat (gateway_due t)
+IsCalm t Close = IsGatewayClosing (gateway_due t)
+IsCalm t (Pass ms) = TunnelSettled Commissions t
 IsCalm t Elsewhere = Unit {0}
 
 abbrev pub AreCalm : Tunnel → List TunnelEvent → Type 0

@@ -2,8 +2,7 @@
 -- time.
 use Rattle.std.proofs.Common.{◌≡◌, ◌≢◌, inl, inr, ℕ, zero, suc, ◌-◌, ◌≤◌, Bool, true, false, List, [], ◌∷◌, slice_get, Option, Some, None, refl, sym, ap, subst, ◌∙◌, arith}
 use Rattle.std.specs.Prelude.{IfSome, length, not, reverse, ◌||◌, ◌==◌, if◌then◌else◌}
-use Rattle.std.specs.List.{AllByRecursion, list_all}
-use Rattle.std.proofs.lemmas.Bool.{and_parts}
+use Rattle.std.specs.List.{AllByRecursion}
 use Rattle.std.proofs.lemmas.Bool.Decides.{nat_tests}
 use Rattle.bus_sim.specs.Ended.{IsAtEnd}
 use Rattle.bus_sim.specs.RunNow.{RunNow, start}
@@ -15,12 +14,12 @@ use Rattle.calm_law.specs.CalmCounts.{ComeForWrites, some_reads}
 use Rattle.calm_law.specs.CalmEnds.{Told, IsAnsweredJob, EndWell}
 use Rattle.calm_law.specs.CalmJobs.{HavePower, IsPromptClient}
 use Rattle.calm_law.specs.CalmLine.{FitsResponse, HaveShortValues}
+use Rattle.calm_law.proofs.Scripts.{said_not}
 use Rattle.calm_law.proofs.ShortValues.{zeros_fit}
 use Rattle.download_plan.proofs.Plans.{plan_answers, check_answers, load_sendable, check_sendable}
 use Rattle.download_plan.proofs.Serving.{load_served, check_served}
 use Rattle.knx_model.specs.declared.address.IndAddr.{IndAddr}
-use Rattle.knx_model.specs.declared.script.ScriptWhat.{ScriptWhat}
-use Rattle.knx_model.specs.declared.script.ScriptWhat.TheVariants.{LoseUp, LoseDown, RepeatUp, RepeatDown, LoseTo, LoseFrom, RepeatTo, Cut, Worn, CloseAfter, Refuse, DropChannel, Off, Standard, Group}
+use Rattle.knx_model.specs.declared.script.ScriptWhat.TheVariants.{Off}
 use Rattle.knx_model.specs.declared.device.FrameSupport.{FrameSupport}
 use Rattle.knx_model.specs.Device.{HasCapacities, NonVolatile, answer_in, runs}
 use Rattle.knx_model.specs.DeviceState.{DeviceState}
@@ -45,7 +44,7 @@ use Rattle.line_model.specs.Faults.{FaultRight, first_elsewhere, first_tunnel, t
 use Rattle.line_model.specs.Follows.{Follows}
 use Rattle.line_model.specs.Fresh.{IsFresh}
 use Rattle.line_model.specs.Legal.{IsLegal, OfDevice}
-use Rattle.line_model.specs.Lines.{Script, is_off, says_off, script_of}
+use Rattle.line_model.specs.Lines.{Script, script_of}
 use Rattle.line_model.specs.LinkStory.{Full}
 use Rattle.line_model.specs.Log.{Job, Over, TurnUnfinished, has_entry, is_turn, job_of, state_of, turn_of}
 use Rattle.line_model.specs.OldStoppedOrNew.{DoneSo, IsUntouched, MeansWhereDone, RunsWhereDone, StaysDone, world_at}
@@ -53,7 +52,7 @@ use Rattle.line_model.specs.Record.{Entry, Placed, placed, record_of}
 use Rattle.line_model.specs.StartOf.{BeginsAs, BusOf, DeviceBegins, is_on_bus}
 use Rattle.line_model.specs.Tunnel.{Commissions, Tunnel}
 use Rattle.line_model.specs.Undisturbed as line
-use Rattle.line_model.specs.Undisturbed.{FailsNot, HasDevices, IsPrompt, IsServedJob, NothingFailed, RefusesRightly, is_undisturbing}
+use Rattle.line_model.specs.Undisturbed.{FailsNot, HasDevices, IsPrompt, IsServedJob, NothingFailed, RefusesRightly}
 use Rattle.line_model.specs.World.{World, Event, me}
 use Rattle.call_parts.specs.Jobs.{ArePlanned, IsPlanned, is_load, plan_of}
 use Rattle.table_compiler.proofs.Unique.{one_image}
@@ -65,29 +64,6 @@ use Rattle.knx_top.specs.Ran.{Commission, IsRunOf, IsToldOver, KeepsPromises}
 use Rattle.knx_top.specs.Undisturbed.{IsUndisturbed, AllServed, EndsSo, FloodsSo, NothingFails}
 use Rattle.knx_top.proofs.Unflooded.{ChecksCost, LoadsCost, unflooded}
 use Rattle.knx_top.proofs.Unbroken.{no_three, none_elsewhere, none_wrong}
-
--- ---- no device is without power
-
-off_not : (device : ℕ) (what : ScriptWhat) → is_undisturbing what ≡ true → says_off device what ≡ false
-off_not device (LoseUp n) h = refl
-off_not device (LoseDown n) h = refl
-off_not device (RepeatUp n) h = refl
-off_not device (RepeatDown n) h = refl
-off_not device (LoseTo d n) h = refl
-off_not device (LoseFrom d n) h = refl
-off_not device (RepeatTo d n) h = refl
-off_not device (Cut d n octets) h = refl
-off_not device (Worn d n) h = refl
-off_not device (CloseAfter d n) h = refl
-off_not device (Refuse n status) h = refl
-off_not device (DropChannel n) h = refl
-off_not device (Off d) h = absurd (cc)
-off_not device (Standard d) h = refl
-off_not device (Group after group service) h = refl
-
-none_off : (device : ℕ) (script : Script) → line.IsUndisturbed script → is_off script device ≡ false
-none_off device [] h = refl
-none_off device (what ∷ script) h = let both = and_parts (is_undisturbing what) (list_all is_undisturbing script) h in rw (off_not device what both.0) (none_off device script both.1)
 
 -- ---- the devices at the start
 
@@ -107,7 +83,7 @@ module _ (new old : Installation) (script : Script) (w : World) (begins : BusOf 
       by_bus false b = absurd (some_none d b)
 
   has_power : (a : ℕ) (d : DeviceState) → BeginsAs old script a d → d.power ≡ true
-  has_power a d b = ap (λ (x : DeviceState). x.power) b.is ∙ ap not (none_off a script says)
+  has_power a d b = ap (λ (x : DeviceState). x.power) b.is ∙ ap not (said_not (Off (record { raw = a })) refl script says)
 
   have_power : HavePower w
   have_power a d is = has_power a d (begun a d is)

@@ -25,8 +25,6 @@ is_fresh kept capacities = record { tunnel = refl; echo = refl; devices = λ a d
 pub is_settled : (kept : NonVolatile) → Settled Commissions (begin kept)
 unfolding device_expired gateway_expired
 is_settled kept = record {
-  up = λ age s e. cc;
-  down = λ age s e. cc;
-  bus = refl;
+  tunnel = record { up = λ age s e. cc; down = λ age s e. cc; bus = refl };
   nothing_to_send = record { devices = λ a d e. of_each (λ x. next_sending x 0 ≡ None) (device_with device kept) d (a == 0x1105) (λ h. refl) e; gateway = refl };
 }

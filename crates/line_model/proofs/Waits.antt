@@ -45,9 +45,11 @@ nothing_at kept t h = record {
 settled : (kept : NonVolatile) → Settled Commissions (replay (begin kept) up)
 unfolding datagram_in ldata_in gateway_took frame_in device_took device_after device_answered after_answer apdu_in tpdu_in service_in
 settled kept = record {
-  up = λ age s e. inl (delivered_of (replay (begin kept) up).tunnel.network.up age s refl e);
-  down = λ age s e. inl (delivered_of (replay (begin kept) up).tunnel.network.down age s refl e);
-  bus = refl;
+  tunnel = record {
+    up = λ age s e. inl (delivered_of (replay (begin kept) up).tunnel.network.up age s refl e);
+    down = λ age s e. inl (delivered_of (replay (begin kept) up).tunnel.network.down age s refl e);
+    bus = refl;
+  };
   nothing_to_send = nothing_at kept 0 (omega arith);
 }
 

@@ -12,14 +12,14 @@ use Rattle.line_model.specs.Follows.{IsDue, IsGatewayRepeat, IsGatewayClosing, g
 abbrev pub IsCalm : World → Event → Type 0
 IsCalm w (Send octets) = Unit {0}
 IsCalm w Renew = Unit {0}
-IsCalm w (Up age) = next_up w ≡ Some age
-IsCalm w (Down age) = next_down Commissions w ≡ Some age
+IsCalm w (Up age) = next_up w.tunnel ≡ Some age
+IsCalm w (Down age) = next_down Commissions w.tunnel ≡ Some age
 IsCalm w (Bus left_out) = left_out ≡ []
 IsCalm w (DevSend device gateway left_out) = (gateway ≡ Comes) × (left_out ≡ [])
 IsCalm w (DevRepeat device gateway) = (gateway ≡ Comes) × IsDue w device sending.Repeat
 IsCalm w (DevClose device) = IsDue w device sending.Closing
-IsCalm w GwRepeat = IsGatewayRepeat (gateway_due w)
-IsCalm w GwClose = IsGatewayClosing (gateway_due w)
+IsCalm w GwRepeat = IsGatewayRepeat (gateway_due w.tunnel)
+IsCalm w GwClose = IsGatewayClosing (gateway_due w.tunnel)
 IsCalm w (Pass ms) = SettledFor Commissions w ms
 IsCalm w _ = ⊥
 

@@ -9,7 +9,7 @@ use Rattle.knx_model.specs.Device.{Effect, Nothing, written_front}
 use Rattle.knx_model.specs.DeviceState.{DeviceState}
 use Rattle.knx_model.specs.DeviceFrames.{effect_of_frame, worn_octets}
 use Rattle.line_model.specs.Network.{Sent, most_deliveries, oldest_age, channel_numbers}
-use Rattle.line_model.specs.Tunnel.{Mode, Commissions, Serves, made}
+use Rattle.line_model.specs.Tunnel.{Tunnel, Mode, Commissions, Serves, made}
 use Rattle.line_model.specs.World.{World, Event, Up, UpRefused, Bus, BusTorn, BusWorn, next_frame, replay}
 use Rattle.line_model.specs.Counts.{write_of, frames_to, writes, connects_reached, is_connect_at}
 use Rattle.line_model.specs.Lines.{Script, loses_to, wears, cuts, refuses}
@@ -19,12 +19,12 @@ use Rattle.line_model.specs.Lines.{Script, loses_to, wears, cuts, refuses}
 abbrev pub is_under_way : ℕ → ℕ → Sent → Bool
 is_under_way made age s = not s.lost && nat_lt s.delivered most_deliveries && nat_lt age oldest_age && nat_lt made (s.made + channel_numbers)
 
-abbrev pub goes_up : World → ℕ → Sent → Bool
-goes_up w age s = is_under_way (made w.tunnel) age s
+abbrev pub goes_up : Tunnel → ℕ → Sent → Bool
+goes_up t age s = is_under_way (made t) age s
 
-abbrev pub goes_down : Mode → World → ℕ → Sent → Bool
-goes_down Commissions w age s = is_under_way (made w.tunnel) age s && (s.endpoint == w.tunnel.present)
-goes_down Serves w age s = is_under_way (made w.tunnel) age s
+abbrev pub goes_down : Mode → Tunnel → ℕ → Sent → Bool
+goes_down Commissions t age s = is_under_way (made t) age s && (s.endpoint == t.present)
+goes_down Serves t age s = is_under_way (made t) age s
 
 abbrev pub or_here : Bool → ℕ → Option ℕ → Option ℕ
 or_here test age (Some older) = Some older
@@ -35,11 +35,11 @@ abbrev pub oldest : (ℕ → Sent → Bool) → ℕ → List Sent → Option ℕ
 oldest test age [] = None
 oldest test age (s ∷ rest) = or_here (test age s && (s.delivered == 0)) age (oldest test (suc age) rest)
 
-abbrev pub next_up : World → Option ℕ
-next_up w = oldest (goes_up w) 0 w.tunnel.network.up
+abbrev pub next_up : Tunnel → Option ℕ
+next_up t = oldest (goes_up t) 0 t.network.up
 
-abbrev pub next_down : Mode → World → Option ℕ
-next_down mode w = oldest (goes_down mode w) 0 w.tunnel.network.down
+abbrev pub next_down : Mode → Tunnel → Option ℕ
+next_down mode t = oldest (goes_down mode t) 0 t.network.down
 
 -- ---- the event that delivers a datagram to the gateway: the N-th connect request is refused where a line says so
 

@@ -7,7 +7,7 @@ use Rattle.knx_model.specs.declared.device.Sending.TheVariants as sending
 use Rattle.knx_model.specs.DeviceSending.{next_sending}
 use Rattle.line_model.specs.Gateway as gateway
 use Rattle.line_model.specs.Gateway.{GatewayExpired, gateway_expired}
-use Rattle.line_model.specs.Tunnel.{Mode}
+use Rattle.line_model.specs.Tunnel.{Tunnel, Mode}
 use Rattle.line_model.specs.World.{World, Event, AtGateway, Comes, IsLost, Send, From, Renew, Up, UpRefused, Down, LoseUp, LoseDown, Bus, BusTorn, BusWorn, BusAgain, DevSend, DevRepeat, DevClose, GwAgain, GwRepeat, GwClose, Cut, On, Pass, now, replay}
 use Rattle.line_model.specs.Legal.{OfDevice}
 use Rattle.line_model.specs.Fresh.{SettledFor}
@@ -20,7 +20,7 @@ use Rattle.line_model.specs.Owed.{Owed, owed, met, is_clients, waits}
 
 -- the next datagram to the gateway has this age, and is lost or not
 pub record IsNextUp (script : Script) (w : World) (age : ℕ) (lost : Bool) : Type 0 where
-  pub next : next_up w ≡ Some age
+  pub next : next_up w.tunnel ≡ Some age
   pub says : loses_up script (number_at w.tunnel.network.up age) ≡ lost
 
 -- it is delivered by this event
@@ -30,7 +30,7 @@ pub record Delivers (script : Script) (start : World) (past : List Event) (age :
 
 -- the next datagram to the client
 pub record IsNextDown (script : Script) (mode : Mode) (w : World) (age : ℕ) (lost : Bool) : Type 0 where
-  pub next : next_down mode w ≡ Some age
+  pub next : next_down mode w.tunnel ≡ Some age
   pub says : loses_down script (number_at w.tunnel.network.down age) ≡ lost
 
 -- ---- frames of devices
@@ -56,8 +56,8 @@ abbrev pub IsGatewayClosing : GatewayExpired → Type 0
 IsGatewayClosing (gateway.Closing frame) = Unit {0}
 IsGatewayClosing _ = ⊥
 
-abbrev pub gateway_due : World → GatewayExpired
-gateway_due w = gateway_expired w.tunnel.gateway (now w)
+abbrev pub gateway_due : Tunnel → GatewayExpired
+gateway_due t = gateway_expired t.gateway t.now
 
 -- ---- where nothing is owed: one row an event
 
@@ -78,8 +78,8 @@ IsInPlace script mode start past (DevSend device heard left_out) = IsHeardSo scr
 IsInPlace script mode start past (DevRepeat device heard) = IsHeardSo script start past device heard × IsDue (replay start past) device sending.Repeat
 IsInPlace script mode start past (DevClose device) = IsDue (replay start past) device sending.Closing
 IsInPlace script mode start past GwAgain = ⊥
-IsInPlace script mode start past GwRepeat = IsGatewayRepeat (gateway_due (replay start past))
-IsInPlace script mode start past GwClose = IsGatewayClosing (gateway_due (replay start past))
+IsInPlace script mode start past GwRepeat = IsGatewayRepeat (gateway_due (replay start past).tunnel)
+IsInPlace script mode start past GwClose = IsGatewayClosing (gateway_due (replay start past).tunnel)
 IsInPlace script mode start past (Cut device) = ⊥
 IsInPlace script mode start past (On device) = ⊥
 IsInPlace script mode start past (Pass ms) = SettledFor mode (replay start past) ms

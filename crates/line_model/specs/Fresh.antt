@@ -9,7 +9,7 @@ use Rattle.knx_model.specs.DeviceSending.{next_sending}
 use Rattle.line_model.specs.Gateway.{gateway_expired, Nothing}
 use Rattle.line_model.specs.Network.{Sent, MayArrive, MayReach}
 use Rattle.line_model.specs.Tunnel as tunnel
-use Rattle.line_model.specs.Tunnel.{Mode, Commissions, Serves, made}
+use Rattle.line_model.specs.Tunnel.{Tunnel, Mode, Commissions, Serves, made}
 use Rattle.line_model.specs.World.{World, me, now}
 
 -- ---- the beginning
@@ -33,24 +33,24 @@ abbrev pub IsOver : Type 0 → Sent → Type 0
 IsOver MayCome s = (1 ≤ s.delivered) ⊎ ((s.lost ≡ true) ⊎ ¬ MayCome)
 
 -- what is under way down: in a run the client gets at its present endpoint alone, a serving gateway sends to all
-abbrev pub MayComeDown : Mode → World → ℕ → Type 0
-MayComeDown Commissions w age = MayReach w.tunnel.present (made w.tunnel) w.tunnel.network.down age
-MayComeDown Serves w age = MayArrive (made w.tunnel) w.tunnel.network.down age
+abbrev pub MayComeDown : Mode → Tunnel → ℕ → Type 0
+MayComeDown Commissions t age = MayReach t.present (made t) t.network.down age
+MayComeDown Serves t age = MayArrive (made t) t.network.down age
 
-abbrev pub MayComeUp : World → ℕ → Type 0
-MayComeUp w age = MayArrive (made w.tunnel) w.tunnel.network.up age
+-- nothing is under way in the tunnel; a frame for the client may wait for a channel or for an acknowledgement
+pub record TunnelSettled (mode : Mode) (t : Tunnel) : Type 0 where
+  pub up : (age : ℕ) (s : Sent) → slice_get t.network.up age ≡ Some s → IsOver (MayArrive (made t) t.network.up age) s
+  pub down : (age : ℕ) (s : Sent) → slice_get t.network.down age ≡ Some s → IsOver (MayComeDown mode t age) s
+  pub bus : t.gateway.bus ≡ []
 
 -- neither a device nor the gateway has anything to send at this time
 pub record HasNothingToSend (w : World) (at : ℕ) : Type 0 where
   pub devices : (address : ℕ) (d : DeviceState) → w.devices address ≡ Some d → next_sending d at ≡ None
   pub gateway : gateway_expired w.tunnel.gateway at ≡ Nothing
 
--- a repeat or a closing whose time hasn't come isn't something to send, nor is a frame for the client that waits for a channel or for an
--- acknowledgement
+-- a repeat or a closing whose time hasn't come isn't something to send
 pub record Settled (mode : Mode) (w : World) : Type 0 where
-  pub up : (age : ℕ) (s : Sent) → slice_get w.tunnel.network.up age ≡ Some s → IsOver (MayComeUp w age) s
-  pub down : (age : ℕ) (s : Sent) → slice_get w.tunnel.network.down age ≡ Some s → IsOver (MayComeDown mode w age) s
-  pub bus : w.tunnel.gateway.bus ≡ []
+  pub tunnel : TunnelSettled mode w.tunnel
   pub nothing_to_send : HasNothingToSend w (now w)
 
 -- it stays so while so many milliseconds pass: nothing becomes due before their end

@@ -9,53 +9,21 @@ use Rattle.knx_model.specs.declared.script.ScriptWhat.TheVariants.{LoseUp, LoseD
 
 -- ---- what one line says of a place
 
-abbrev pub says_lose_up : ℕ → ScriptWhat → Bool
-says_lose_up n (LoseUp k) = k == n
-says_lose_up n _ = false
-
-abbrev pub says_lose_down : ℕ → ScriptWhat → Bool
-says_lose_down n (LoseDown k) = k == n
-says_lose_down n _ = false
-
-abbrev pub says_repeat_up : ℕ → ScriptWhat → Bool
-says_repeat_up n (RepeatUp k) = k == n
-says_repeat_up n _ = false
-
-abbrev pub says_repeat_down : ℕ → ScriptWhat → Bool
-says_repeat_down n (RepeatDown k) = k == n
-says_repeat_down n _ = false
-
-abbrev pub says_lose_to : ℕ → ℕ → ScriptWhat → Bool
-says_lose_to device n (LoseTo d k) = (d.raw == device) && (k == n)
-says_lose_to device n _ = false
-
-abbrev pub says_lose_from : ℕ → ℕ → ScriptWhat → Bool
-says_lose_from device n (LoseFrom d k) = (d.raw == device) && (k == n)
-says_lose_from device n _ = false
-
-abbrev pub says_repeat_to : ℕ → ℕ → ScriptWhat → Bool
-says_repeat_to device n (RepeatTo d k) = (d.raw == device) && (k == n)
-says_repeat_to device n _ = false
-
-abbrev pub says_worn : ℕ → ℕ → ScriptWhat → Bool
-says_worn device n (Worn d k) = (d.raw == device) && (k == n)
-says_worn device n _ = false
-
-abbrev pub says_close : ℕ → ℕ → ScriptWhat → Bool
-says_close device n (CloseAfter d k) = (d.raw == device) && (k == n)
-says_close device n _ = false
-
-abbrev pub says_drop : ℕ → ScriptWhat → Bool
-says_drop n (DropChannel k) = k == n
-says_drop n _ = false
-
-abbrev pub says_off : ℕ → ScriptWhat → Bool
-says_off device (Off d) = d.raw == device
-says_off device _ = false
-
-abbrev pub says_standard : ℕ → ScriptWhat → Bool
-says_standard device (Standard d) = d.raw == device
-says_standard device _ = false
+-- whether a line is the one that is wanted, where that says no more than what happens at its place; a line that says a value beside it, as a cut, is none
+abbrev pub is_line : ScriptWhat → ScriptWhat → Bool
+is_line (LoseUp n) (LoseUp k) = k == n
+is_line (LoseDown n) (LoseDown k) = k == n
+is_line (RepeatUp n) (RepeatUp k) = k == n
+is_line (RepeatDown n) (RepeatDown k) = k == n
+is_line (LoseTo device n) (LoseTo d k) = (d.raw == device.raw) && (k == n)
+is_line (LoseFrom device n) (LoseFrom d k) = (d.raw == device.raw) && (k == n)
+is_line (RepeatTo device n) (RepeatTo d k) = (d.raw == device.raw) && (k == n)
+is_line (Worn device n) (Worn d k) = (d.raw == device.raw) && (k == n)
+is_line (CloseAfter device n) (CloseAfter d k) = (d.raw == device.raw) && (k == n)
+is_line (DropChannel n) (DropChannel k) = k == n
+is_line (Off device) (Off d) = d.raw == device.raw
+is_line (Standard device) (Standard d) = d.raw == device.raw
+is_line _ _ = false
 
 -- how many octets of the write are new
 abbrev pub cut_at : ℕ → ℕ → ScriptWhat → Option ℕ
@@ -74,8 +42,8 @@ Script = List ScriptWhat
 abbrev pub script_of : List ScriptLine → Script
 script_of ls = map (λ (l : ScriptLine). l.what) ls
 
-abbrev pub says : (ScriptWhat → Bool) → Script → Bool
-says test script = list_any test script
+abbrev pub has_line : ScriptWhat → Script → Bool
+has_line line script = list_any (is_line line) script
 
 abbrev pub or_later : Option ℕ → Option ℕ → Option ℕ
 or_later None later = later
@@ -86,40 +54,40 @@ first_said what [] = None
 first_said what (line ∷ script) = or_later (what line) (first_said what script)
 
 abbrev pub loses_up : Script → ℕ → Bool
-loses_up script n = says (says_lose_up n) script
+loses_up script n = has_line (LoseUp n) script
 
 abbrev pub loses_down : Script → ℕ → Bool
-loses_down script n = says (says_lose_down n) script
+loses_down script n = has_line (LoseDown n) script
 
 abbrev pub repeats_up : Script → ℕ → Bool
-repeats_up script n = says (says_repeat_up n) script
+repeats_up script n = has_line (RepeatUp n) script
 
 abbrev pub repeats_down : Script → ℕ → Bool
-repeats_down script n = says (says_repeat_down n) script
+repeats_down script n = has_line (RepeatDown n) script
 
 abbrev pub loses_to : Script → ℕ → ℕ → Bool
-loses_to script device n = says (says_lose_to device n) script
+loses_to script device n = has_line (LoseTo (record { raw = device }) n) script
 
 abbrev pub loses_from : Script → ℕ → ℕ → Bool
-loses_from script device n = says (says_lose_from device n) script
+loses_from script device n = has_line (LoseFrom (record { raw = device }) n) script
 
 abbrev pub repeats_to : Script → ℕ → ℕ → Bool
-repeats_to script device n = says (says_repeat_to device n) script
+repeats_to script device n = has_line (RepeatTo (record { raw = device }) n) script
 
 abbrev pub wears : Script → ℕ → ℕ → Bool
-wears script device n = says (says_worn device n) script
+wears script device n = has_line (Worn (record { raw = device }) n) script
 
 abbrev pub closes : Script → ℕ → ℕ → Bool
-closes script device n = says (says_close device n) script
+closes script device n = has_line (CloseAfter (record { raw = device }) n) script
 
 abbrev pub drops : Script → ℕ → Bool
-drops script n = says (says_drop n) script
+drops script n = has_line (DropChannel n) script
 
 abbrev pub is_off : Script → ℕ → Bool
-is_off script device = says (says_off device) script
+is_off script device = has_line (Off (record { raw = device })) script
 
 abbrev pub is_standard : Script → ℕ → Bool
-is_standard script device = says (says_standard device) script
+is_standard script device = has_line (Standard (record { raw = device })) script
 
 abbrev pub cuts : Script → ℕ → ℕ → Option ℕ
 cuts script device n = first_said (cut_at device n) script

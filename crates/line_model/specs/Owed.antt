@@ -85,8 +85,8 @@ is_connected None = false
 is_connected (Some d) = is_some (partner_of d.connection)
 
 abbrev pub is_possible : Mode → World → Owed → Bool
-is_possible mode w (DeliverAgain number) = passes_again (goes_up w) w.tunnel.network.up number
-is_possible mode w (ReachAgain number) = passes_again (goes_down mode w) w.tunnel.network.down number
+is_possible mode w (DeliverAgain number) = passes_again (goes_up w.tunnel) w.tunnel.network.up number
+is_possible mode w (ReachAgain number) = passes_again (goes_down mode w.tunnel) w.tunnel.network.down number
 is_possible mode w (BringAgain device) = is_some (frame_by (λ d. d.last) (w.devices device))
 is_possible mode w (PowerReturns device) = true
 is_possible mode w (ConnectionCloses device) = is_connected (w.devices device)

@@ -88,7 +88,10 @@ settled_exactly reach w up down bus silent of_up of_down of_bus of_silent = (
 )
 
 pub settled_in_run : (w : World) → IsSettledWithin (To w.tunnel.present) w ↔ Settled Commissions w
-settled_in_run w = ((λ s. record { up = s.up; down = s.down; bus = s.bus; nothing_to_send = s.nothing_to_send }), (λ s. record { up = s.up; down = s.down; bus = s.bus; nothing_to_send = s.nothing_to_send }))
+settled_in_run w = (
+  (λ s. record { tunnel = record { up = s.up; down = s.down; bus = s.bus }; nothing_to_send = s.nothing_to_send }),
+  (λ s. record { up = s.tunnel.up; down = s.tunnel.down; bus = s.tunnel.bus; nothing_to_send = s.nothing_to_send }),
+)
 
 pub both_ways : {P Q R : Type 0} → P ↔ Q → Q ↔ R → P ↔ R
 both_ways f g = ((λ p. g.0 (f.0 p)), (λ r. f.1 (g.1 r)))
@@ -103,17 +106,21 @@ no_frame w h = by_bus w.tunnel.gateway.bus h
 pub bus_free : (w : World) (r : Option Ldata) (b : Bool) → r ≡ next_frame w → IsTrue b ↔ (r ≡ None) → IsTrue b ↔ (w.tunnel.gateway.bus ≡ [])
 bus_free w r b is none = ((λ h. no_frame w (sym is ∙ none.0 h)), (λ empty. none.1 (is ∙ ap (λ (frames : List Ldata). option_map (on_bus w.tunnel.gateway.tunnel) (first_frame frames)) empty)))
 
-pub is_settled : (mode : Mode) (w : World) → next_up w ≡ None → next_down mode w ≡ None → next_frame w ≡ None → ((a : ℕ) → sending_at (w.devices a) (now w) ≡ None)
+pub is_settled : (mode : Mode) (w : World) → next_up w.tunnel ≡ None → next_down mode w.tunnel ≡ None → next_frame w ≡ None → ((a : ℕ) → sending_at (w.devices a) (now w) ≡ None)
     → due_of (gateway_expired w.tunnel.gateway (now w)) ≡ due.Nothing → Settled mode w
 is_settled Commissions w up down bus silent nothing = record {
-  up = all_over Every (made w.tunnel) w.tunnel.network.up up;
-  down = all_over (To w.tunnel.present) (made w.tunnel) w.tunnel.network.down down;
-  bus = no_frame w bus;
+  tunnel = record {
+    up = all_over Every (made w.tunnel) w.tunnel.network.up up;
+    down = all_over (To w.tunnel.present) (made w.tunnel) w.tunnel.network.down down;
+    bus = no_frame w bus;
+  };
   nothing_to_send = record { devices = all_silent w silent; gateway = is_nothing (gateway_expired w.tunnel.gateway (now w)) nothing };
 }
 is_settled Serves w up down bus silent nothing = record {
-  up = all_over Every (made w.tunnel) w.tunnel.network.up up;
-  down = all_over Every (made w.tunnel) w.tunnel.network.down down;
-  bus = no_frame w bus;
+  tunnel = record {
+    up = all_over Every (made w.tunnel) w.tunnel.network.up up;
+    down = all_over Every (made w.tunnel) w.tunnel.network.down down;
+    bus = no_frame w bus;
+  };
   nothing_to_send = record { devices = all_silent w silent; gateway = is_nothing (gateway_expired w.tunnel.gateway (now w)) nothing };
 }

@@ -37,7 +37,7 @@ pub fn what_is_due_is_allowed()
 
 /// Where no datagram goes next, no frame waits for the bus, and neither a device nor the gateway has something to send, a world is settled.
 pub fn what_is_settled()
-    ensures { (mode : Mode) (w : World) → next_up w ≡ None → next_down mode w ≡ None → next_frame w ≡ None → ((device : ℕ) → sending_at (w.devices device) (now w) ≡ None)
+    ensures { (mode : Mode) (w : World) → next_up w.tunnel ≡ None → next_down mode w.tunnel ≡ None → next_frame w ≡ None → ((device : ℕ) → sending_at (w.devices device) (now w) ≡ None)
         → due_of (gateway_expired w.tunnel.gateway (now w)) ≡ due.Nothing → Settled mode w }
 {}
 

@@ -5,8 +5,7 @@ use Rattle.std.proofs.lemmas.Bool.{cases_lt}
 use Rattle.std.proofs.lemmas.Option.{same_Some, slice_get_within}
 use Rattle.line_model.specs.Deliveries.{or_here, oldest, goes_down, next_down}
 use Rattle.line_model.specs.Network.{Sent}
-use Rattle.line_model.specs.Tunnel.{Mode, Commissions, Serves, made}
-use Rattle.line_model.specs.World.{World}
+use Rattle.line_model.specs.Tunnel.{Tunnel, Mode, Commissions, Serves, made}
 use Rattle.network_sim.specs.declared.place.Reach.{Reach}
 use Rattle.network_sim.specs.declared.place.Reach.TheVariants.{Every, To}
 use Rattle.network_sim.specs.Arriving.{passes, goes_first}
@@ -141,6 +140,6 @@ next_is reach made kept waiting h (Some age) here older none = sym (next_some re
 
 -- ---- down
 
-pub down_kept : (mode : Mode) (w : World) (kept : Window) → window_of w.tunnel.network.down ≡ kept → next_down mode w ≡ oldest (goes_down mode w) 0 kept.kept
-down_kept Commissions w kept same = oldest_kept (To w.tunnel.present) (made w.tunnel) w.tunnel.network.down kept same
-down_kept Serves w kept same = oldest_kept Every (made w.tunnel) w.tunnel.network.down kept same
+pub down_kept : (mode : Mode) (t : Tunnel) (kept : Window) → window_of t.network.down ≡ kept → next_down mode t ≡ oldest (goes_down mode t) 0 kept.kept
+down_kept Commissions t kept same = oldest_kept (To t.present) (made t) t.network.down kept same
+down_kept Serves t kept same = oldest_kept Every (made t) t.network.down kept same

@@ -4,11 +4,10 @@ ghost use Rattle.std.specs.Prelude.{◌≡◌, ℕ, ◌≤◌, List, length, Som
 ghost use Rattle.knx_model.specs.declared.frames.ip.IpFrame.{IpFrame as Frame};
 ghost use Rattle.knx_model.specs.KnxNetIp.{IsInRange, Written};
 ghost use Rattle.line_model.specs.Deliveries.{oldest, goes_up, goes_down, next_up, next_down};
-ghost use Rattle.line_model.specs.Fresh.{IsOver, MayComeUp, MayComeDown};
+ghost use Rattle.line_model.specs.Fresh.{IsOver, MayComeDown};
 ghost use Rattle.line_model.specs.Network.{Sent, MayArrive, MayReach, oldest_age};
 ghost use Rattle.line_model.specs.Reading.{datagram_in};
-ghost use Rattle.line_model.specs.Tunnel.{Mode, made};
-ghost use Rattle.line_model.specs.World.{World};
+ghost use Rattle.line_model.specs.Tunnel.{Tunnel, Mode, made};
 ghost use Rattle.network_sim.specs.declared.place.Reach.TheVariants.{Every};
 ghost use Rattle.network_sim.specs.Arriving.{AllOver, passes, reach_down};
 ghost use Rattle.network_sim.specs.Readable.{readable};
@@ -16,19 +15,19 @@ ghost use Rattle.network_sim.specs.Window.{Window, window_of};
 
 /// Which datagram is delivered next is read off the youngest 128: a datagram with 128 younger ones arrives no more.
 pub fn the_youngest_are_enough()
-    ensures up { (w : World) (kept : Window) → window_of w.tunnel.network.up ≡ kept → next_up w ≡ oldest (goes_up w) 0 kept.kept }
-    ensures down { (mode : Mode) (w : World) (kept : Window) → window_of w.tunnel.network.down ≡ kept → next_down mode w ≡ oldest (goes_down mode w) 0 kept.kept }
-    ensures one_way_up { (w : World) → next_up w ≡ oldest (passes Every (made w.tunnel)) 0 w.tunnel.network.up }
-    ensures one_way_down { (mode : Mode) (w : World) → next_down mode w ≡ oldest (passes (reach_down mode w.tunnel.present) (made w.tunnel)) 0 w.tunnel.network.down }
+    ensures up { (t : Tunnel) (kept : Window) → window_of t.network.up ≡ kept → next_up t ≡ oldest (goes_up t) 0 kept.kept }
+    ensures down { (mode : Mode) (t : Tunnel) (kept : Window) → window_of t.network.down ≡ kept → next_down mode t ≡ oldest (goes_down mode t) 0 kept.kept }
+    ensures one_way_up { (t : Tunnel) → next_up t ≡ oldest (passes Every (made t)) 0 t.network.up }
+    ensures one_way_down { (mode : Mode) (t : Tunnel) → next_down mode t ≡ oldest (passes (reach_down mode t.present) (made t)) 0 t.network.down }
     ensures older { (made : ℕ) (sent : List Sent) (age : ℕ) → oldest_age ≤ age → ¬ MayArrive made sent age }
     ensures older_at { (present made : ℕ) (sent : List Sent) (age : ℕ) → oldest_age ≤ age → ¬ MayReach present made sent age }
 {}
 
-/// Where all that was sent up is over, and all that was sent down, nothing is under way that keeps a world from being settled.
+/// Where all that was sent up is over, and all that was sent down, nothing is under way that keeps a tunnel from being settled.
 pub fn a_settled_network_is_over()
-    ensures up { (w : World) → AllOver Every (made w.tunnel) w.tunnel.network.up → (age : ℕ) (s : Sent) → slice_get w.tunnel.network.up age ≡ Some s → IsOver (MayComeUp w age) s }
-    ensures down { (mode : Mode) (w : World) → AllOver (reach_down mode w.tunnel.present) (made w.tunnel) w.tunnel.network.down
-        → (age : ℕ) (s : Sent) → slice_get w.tunnel.network.down age ≡ Some s → IsOver (MayComeDown mode w age) s }
+    ensures up { (t : Tunnel) → AllOver Every (made t) t.network.up → (age : ℕ) (s : Sent) → slice_get t.network.up age ≡ Some s → IsOver (MayArrive (made t) t.network.up age) s }
+    ensures down { (mode : Mode) (t : Tunnel) → AllOver (reach_down mode t.present) (made t) t.network.down
+        → (age : ℕ) (s : Sent) → slice_get t.network.down age ≡ Some s → IsOver (MayComeDown mode t age) s }
 {}
 
 /// What is kept of octets reads as they do; up to 300 all are kept, as of each that the gateway sends.

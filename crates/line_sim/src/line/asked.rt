@@ -27,7 +27,7 @@ impl Line {
 
     /// The age of the client's datagram that is delivered next.
     pub fn next_up(&self) -> Option<usize>
-        ensures value { (w : World) → IsNow self.now w → result ≡ next_up w }
+        ensures value { (w : World) → IsNow self.now w → result ≡ next_up w.tunnel }
         ensures deliverable { IfSome result (λ age. OfSent IsDeliverable (slice_get self.now.tunnel.up.kept age)) }
         ensures allowed { IfSome result (λ age. (mode : Mode) → Allows mode self.now (Up age)) }
     {
@@ -36,7 +36,7 @@ impl Line {
 
     /// The age of the gateway's datagram that the client gets next at its present endpoint.
     pub fn next_down(&self) -> Option<usize>
-        ensures value { (w : World) → IsNow self.now w → result ≡ next_down Commissions w }
+        ensures value { (w : World) → IsNow self.now w → result ≡ next_down Commissions w.tunnel }
         ensures deliverable { IfSome result (λ age. OfSent IsDeliverable (slice_get self.now.tunnel.down.kept age)) }
         ensures allowed { IfSome result (λ age. Allows Commissions self.now (Down age)) }
     {
@@ -45,7 +45,7 @@ impl Line {
 
     /// The age of the datagram of a serving gateway that goes next, to whichever of its clients.
     pub fn next_served(&self) -> Option<usize>
-        ensures value { (w : World) → IsNow self.now w → result ≡ next_down Serves w }
+        ensures value { (w : World) → IsNow self.now w → result ≡ next_down Serves w.tunnel }
         ensures deliverable { IfSome result (λ age. OfSent IsDeliverable (slice_get self.now.tunnel.down.kept age)) }
         ensures allowed { IfSome result (λ age. Allows Serves self.now (Down age)) }
     {

@@ -99,7 +99,7 @@ impl Line {
 
     /// The age of the client's datagram of a number, where it was delivered once and may come to the gateway once more.
     pub fn again_up(&self, number: u64) -> Option<usize>
-        ensures possible { (w : World) → IsNow self.now w → CanTell number w.tunnel.network.up → is_some result ≡ passes_again (goes_up w) w.tunnel.network.up number }
+        ensures possible { (w : World) → IsNow self.now w → CanTell number w.tunnel.network.up → is_some result ≡ passes_again (goes_up w.tunnel) w.tunnel.network.up number }
         ensures age { IfSome result (λ age. (w : World) → IsNow self.now w → CanTell number w.tunnel.network.up → age ≡ age_of w.tunnel.network.up number) }
         ensures deliverable { IfSome result (λ age. OfSent IsDeliverable (slice_get self.now.tunnel.up.kept age)) }
         ensures allowed { IfSome result (λ age. (mode : Mode) → Allows mode self.now (Up age)) }
@@ -114,7 +114,7 @@ impl Line {
 
     /// The age of the gateway's datagram of a number, where it was delivered once and the client may get it once more at its present endpoint.
     pub fn again_down(&self, number: u64) -> Option<usize>
-        ensures possible { (w : World) → IsNow self.now w → CanTell number w.tunnel.network.down → is_some result ≡ passes_again (goes_down Commissions w) w.tunnel.network.down number }
+        ensures possible { (w : World) → IsNow self.now w → CanTell number w.tunnel.network.down → is_some result ≡ passes_again (goes_down Commissions w.tunnel) w.tunnel.network.down number }
         ensures age { IfSome result (λ age. (w : World) → IsNow self.now w → CanTell number w.tunnel.network.down → age ≡ age_of w.tunnel.network.down number) }
         ensures deliverable { IfSome result (λ age. OfSent IsDeliverable (slice_get self.now.tunnel.down.kept age)) }
         ensures allowed { IfSome result (λ age. Allows Commissions self.now (Down age)) }
@@ -129,7 +129,7 @@ impl Line {
 
     /// The age of the datagram of a number of a serving gateway, where it was delivered once and may go once more.
     pub fn again_served(&self, number: u64) -> Option<usize>
-        ensures possible { (w : World) → IsNow self.now w → CanTell number w.tunnel.network.down → is_some result ≡ passes_again (goes_down Serves w) w.tunnel.network.down number }
+        ensures possible { (w : World) → IsNow self.now w → CanTell number w.tunnel.network.down → is_some result ≡ passes_again (goes_down Serves w.tunnel) w.tunnel.network.down number }
         ensures age { IfSome result (λ age. (w : World) → IsNow self.now w → CanTell number w.tunnel.network.down → age ≡ age_of w.tunnel.network.down number) }
         ensures deliverable { IfSome result (λ age. OfSent IsDeliverable (slice_get self.now.tunnel.down.kept age)) }
         ensures allowed { IfSome result (λ age. Allows Serves self.now (Down age)) }

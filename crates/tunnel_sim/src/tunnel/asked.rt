@@ -5,7 +5,6 @@ ghost use Rattle.line_model.specs.Deliveries.{next_up, next_down};
 ghost use Rattle.line_model.specs.Gateway.{gateway_expired, Nothing};
 ghost use Rattle.line_model.specs.Network.{MayArrive, MayReach, OfSent};
 ghost use Rattle.line_model.specs.Tunnel.{Tunnel as Known, Commissions, Serves, Up, Down, MayHappen};
-ghost use Rattle.line_model.specs.World.{World};
 ghost use Rattle.network_sim.specs.Window.{IsDeliverable};
 ghost use Rattle.tunnel_sim.specs.Tunnels.{IsTunnel, tunnel_now};
 
@@ -15,7 +14,7 @@ use network_sim::Reach;
 impl Tunnel {
     /// The age of the client's datagram that the gateway takes next.
     pub fn next_up(&self) -> Option<usize>
-        ensures value { (w : World) → IsTunnel (tunnel_now self.now) w.tunnel → result ≡ next_up w }
+        ensures value { (t : Known) → IsTunnel (tunnel_now self.now) t → result ≡ next_up t }
         ensures deliverable { IfSome result (λ age. OfSent IsDeliverable (slice_get self.now.up.kept age)) }
         ensures comes { IfSome result (λ age. MayArrive self.now.gateway.made self.now.up.kept age) }
         ensures may { IfSome result (λ age. (t : Known) → IsTunnel (tunnel_now self.now) t → MayHappen Commissions t (Up age)) }
@@ -26,7 +25,7 @@ impl Tunnel {
 
     /// The age of the gateway's datagram that the client gets next at its present endpoint.
     pub fn next_down(&self) -> Option<usize>
-        ensures value { (w : World) → IsTunnel (tunnel_now self.now) w.tunnel → result ≡ next_down Commissions w }
+        ensures value { (t : Known) → IsTunnel (tunnel_now self.now) t → result ≡ next_down Commissions t }
         ensures deliverable { IfSome result (λ age. OfSent IsDeliverable (slice_get self.now.down.kept age)) }
         ensures comes { IfSome result (λ age. MayReach self.now.present self.now.gateway.made self.now.down.kept age) }
         ensures may { IfSome result (λ age. (t : Known) → IsTunnel (tunnel_now self.now) t → MayHappen Commissions t (Down age)) }
@@ -37,7 +36,7 @@ impl Tunnel {
 
     /// The age of the datagram of a serving gateway that goes next, to whichever of its clients.
     pub fn next_served(&self) -> Option<usize>
-        ensures value { (w : World) → IsTunnel (tunnel_now self.now) w.tunnel → result ≡ next_down Serves w }
+        ensures value { (t : Known) → IsTunnel (tunnel_now self.now) t → result ≡ next_down Serves t }
         ensures deliverable { IfSome result (λ age. OfSent IsDeliverable (slice_get self.now.down.kept age)) }
         ensures comes { IfSome result (λ age. MayArrive self.now.gateway.made self.now.down.kept age) }
     {

@@ -4,7 +4,7 @@ use Rattle.network_sim.proofs.Deliveries.{oldest_kept, down_kept}
 use Rattle.network_sim.proofs.laws.the_youngest_are_enough.Goals as goal
 
 pub returns-clause-up : goal.returns-clause-up
-returns-clause-up c = λ w kept same. oldest_kept Every (made w.tunnel) w.tunnel.network.up kept same
+returns-clause-up c = λ t kept same. oldest_kept Every (made t) t.network.up kept same
 
 pub returns-clause-down : goal.returns-clause-down
 returns-clause-down c = down_kept

@@ -3,7 +3,6 @@ use Rattle.std.specs.Prelude.{slice_get}
 use Rattle.line_model.specs.Record.{Got}
 use Rattle.tunnel_sim.specs.Tunnels.{tunnel_now}
 use Rattle.address_world.specs.AddressWorld.{AddressWorld, Down, replay}
-use Rattle.address_sim.specs.Follows.{line_of}
 use Rattle.address_sim.specs.Told.{start_of}
 use Rattle.address_sim.specs.Turns.{RunState, Gets, NothingComes, Stays, begun_of, world}
 use Rattle.address_sim.proofs.Seen.{no_longer}
@@ -27,7 +26,7 @@ invariant_of-self c =
           (got_so c.down-octets.result (slice_get w.tunnel.network.down c.in_ok-age.age) (short_so c.down-octets.result w.tunnel.network.down c.in_ok-age.age c.self.invariant.tunnel.short got) got) c.self.invariant.entries refl;
       broadcast = c.self.invariant.broadcast;
       may = record { tunnel = c.in_ok-age.ensures.may w.tunnel c.self.invariant.tunnel; units = tt };
-      next = sym (c.in_ok-age.ensures.value (line_of w) c.self.invariant.tunnel);
+      next = sym (c.in_ok-age.ensures.value w.tunnel c.self.invariant.tunnel);
     })
 
 pub returns-clause-got : goal.returns-clause-got
@@ -37,7 +36,7 @@ returns-clause-got c =
     subst (λ (v : RunState). Gets c.down-octets.result v (record { begun = begun_of c.self.inside.begun; events = c.push.new.self.list; room = c.push.new.self.room })) c.self.view_is (record {
       age = c.in_ok-age.age;
       happens = happens_so (begun_of c.self.inside.begun) c.self.inside.events.list c.self.inside.events.list c.push.new.self.list c.self.inside.events.room c.push.new.self.room (Down c.in_ok-age.age) refl c.push.ensures.list
-          (record { tunnel = c.in_ok-age.ensures.may w.tunnel c.self.invariant.tunnel; units = tt }) (sym (c.in_ok-age.ensures.value (line_of w) c.self.invariant.tunnel));
+          (record { tunnel = c.in_ok-age.ensures.may w.tunnel c.self.invariant.tunnel; units = tt }) (sym (c.in_ok-age.ensures.value w.tunnel c.self.invariant.tunnel));
       got = got;
       short = short_so c.down-octets.result w.tunnel.network.down c.in_ok-age.age c.self.invariant.tunnel.short got;
     })
@@ -46,4 +45,4 @@ pub returns-in_err-age-clause-none : goal.returns-in_err-age-clause-none
 returns-in_err-age-clause-none c =
     let w : AddressWorld = replay (start_of (begun_of c.self.inside.begun)) c.self.inside.events.list in
     IfNoneAny c.from_residual.result (Stays c.args.self.now c.args.self.now × NothingComes (world c.args.self.now))
-    (refl, subst (λ (v : RunState). NothingComes (world v)) c.self.view_is (sym (c.in_err-age.ensures.value (line_of w) c.self.invariant.tunnel)))
+    (refl, subst (λ (v : RunState). NothingComes (world v)) c.self.view_is (sym (c.in_err-age.ensures.value w.tunnel c.self.invariant.tunnel)))

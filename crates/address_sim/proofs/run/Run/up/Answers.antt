@@ -2,7 +2,6 @@ use Rattle.std.proofs.Common.{◌≡◌, None, refl, sym, subst}
 use Rattle.line_model.specs.Deliveries.{next_up}
 use Rattle.tunnel_sim.specs.Tunnels.{tunnel_now}
 use Rattle.address_world.specs.AddressWorld.{AddressWorld, Up, replay}
-use Rattle.address_sim.specs.Follows.{line_of}
 use Rattle.address_sim.specs.Told.{start_of}
 use Rattle.address_sim.specs.Turns.{RunState, GoesUnseen, begun_of, world}
 use Rattle.address_sim.proofs.Held.{can_count, held_after, no_entry, unseen_so}
@@ -11,7 +10,7 @@ use Rattle.address_sim.proofs.run.Run.up.Goals as goal
 pub returns-in_default-clause-none : goal.returns-in_default-clause-none
 returns-in_default-clause-none c = λ none.
     let w : AddressWorld = replay (start_of (begun_of c.self.inside.begun)) c.self.inside.events.list in
-    (refl, subst (λ (v : RunState). next_up (line_of (world v)) ≡ None) c.self.view_is (sym (c.in_default.ensures.value (line_of w) c.self.invariant.tunnel)))
+    (refl, subst (λ (v : RunState). next_up (world v).tunnel ≡ None) c.self.view_is (sym (c.in_default.ensures.value w.tunnel c.self.invariant.tunnel)))
 
 pub invariant_of-self-2 : goal.invariant_of-self-2
 invariant_of-self-2 c =
@@ -24,7 +23,7 @@ invariant_of-self-2 c =
       entries = no_entry (start_of (begun_of c.self.inside.begun)) c.self.inside.events.list (Up c.in-Some.age) c.self.inside.entries refl c.self.invariant.entries;
       broadcast = c.self.invariant.broadcast;
       may = record { tunnel = c.in-Some.ensures.may w.tunnel c.self.invariant.tunnel; units = tt };
-      next = sym (c.in-Some.ensures.value (line_of w) c.self.invariant.tunnel);
+      next = sym (c.in-Some.ensures.value w.tunnel c.self.invariant.tunnel);
     })
 
 pub returns-clause-did : goal.returns-clause-did
@@ -32,4 +31,4 @@ returns-clause-did c = λ did.
     let w : AddressWorld = replay (start_of (begun_of c.self.inside.begun)) c.self.inside.events.list in
     subst (λ (v : RunState). GoesUnseen v (record { begun = begun_of c.self.inside.begun; events = c.push.new.self.list; room = c.push.new.self.room })) c.self.view_is
     (unseen_so (begun_of c.self.inside.begun) c.self.inside.events.list c.reserve.new.self.list c.push.new.self.list c.self.inside.events.room c.push.new.self.room (Up c.in-Some.age) refl c.reserve.ensures.list c.push.ensures.list
-    (record { tunnel = c.in-Some.ensures.may w.tunnel c.self.invariant.tunnel; units = tt }) (sym (c.in-Some.ensures.value (line_of w) c.self.invariant.tunnel)))
+    (record { tunnel = c.in-Some.ensures.may w.tunnel c.self.invariant.tunnel; units = tt }) (sym (c.in-Some.ensures.value w.tunnel c.self.invariant.tunnel)))

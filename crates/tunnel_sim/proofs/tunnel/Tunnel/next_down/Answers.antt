@@ -8,9 +8,9 @@ use Rattle.tunnel_sim.proofs.Going.{may_down, next_comes}
 use Rattle.tunnel_sim.proofs.tunnel.Tunnel.next_down.Goals as goal
 
 pub returns-clause-value : goal.returns-clause-value
-returns-clause-value c w is =
-    c.next.ensures.simulates w.tunnel.network.down is.down ∙ ap (λ (m : ℕ). oldest (passes (To c.args.self.now.present) m) 0 w.tunnel.network.down) (sym is.gateway.made)
-    ∙ ap (λ (p : ℕ). oldest (passes (To p) (made w.tunnel)) 0 w.tunnel.network.down) (sym is.present) ∙ sym (c.the_youngest_are_enough.ensures.one_way_down Commissions w)
+returns-clause-value c t is =
+    c.next.ensures.simulates t.network.down is.down ∙ ap (λ (m : ℕ). oldest (passes (To c.args.self.now.present) m) 0 t.network.down) (sym is.gateway.made)
+    ∙ ap (λ (p : ℕ). oldest (passes (To p) (made t)) 0 t.network.down) (sym is.present) ∙ sym (c.the_youngest_are_enough.ensures.one_way_down Commissions t)
 
 pub returns-clause-may : goal.returns-clause-may
 returns-clause-may c = may_down (tunnel_now c.args.self.now) c.next.result c.next.ensures.simulates

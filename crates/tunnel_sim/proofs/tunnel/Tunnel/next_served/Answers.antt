@@ -7,8 +7,8 @@ use Rattle.tunnel_sim.proofs.Going.{next_comes}
 use Rattle.tunnel_sim.proofs.tunnel.Tunnel.next_served.Goals as goal
 
 pub returns-clause-value : goal.returns-clause-value
-returns-clause-value c w is =
-    c.next.ensures.simulates w.tunnel.network.down is.down ∙ ap (λ (m : ℕ). oldest (passes Every m) 0 w.tunnel.network.down) (sym is.gateway.made) ∙ sym (c.the_youngest_are_enough.ensures.one_way_down Serves w)
+returns-clause-value c t is =
+    c.next.ensures.simulates t.network.down is.down ∙ ap (λ (m : ℕ). oldest (passes Every m) 0 t.network.down) (sym is.gateway.made) ∙ sym (c.the_youngest_are_enough.ensures.one_way_down Serves t)
 
 pub returns-clause-comes : goal.returns-clause-comes
 returns-clause-comes c = next_comes Every c.args.self.now.gateway.made c.args.self.now.down.kept c.next.result c.next.ensures.value
