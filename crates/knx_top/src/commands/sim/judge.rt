@@ -1,9 +1,11 @@
 //! What was read is judged in order: the catalogue, NEW, OLD, the script and its devices, then the devices of the jobs.
 
 ghost use Rattle.line_model.specs.Polled.{none_failed};
-ghost use Rattle.std.specs.Prelude.{◌≡◌, ◌≢◌, ◌≤◌, Err, IfErr, IfOk, length};
+ghost use Rattle.std.specs.Prelude.{◌≡◌, ◌≢◌, ◌≤◌, Err, IfErr, IfOk, length, map};
 ghost use Rattle.call_words.specs.declared.stop.Stop.TheVariants.{NoMemory as OutOfMemory};
 ghost use Rattle.knx_top.specs.Begun.{BeginsLine, IsPrepared, OrderFor};
+ghost use Rattle.call_parts.specs.Jobs.{ArePlanned, seen_job};
+ghost use Rattle.call_parts.specs.OnLine.{AreCompiled, on_bus};
 ghost use Rattle.call_parts.specs.OptionValues.{most_jobs};
 ghost use Rattle.knx_top.specs.commands.sim.{judged, sim_words_of, with_lines, with_project};
 
@@ -39,6 +41,24 @@ pub struct Order {
     pub devices: List<(IndAddr, Option<Image>)>,
 }
 
+/// The plans of jobs, and the devices on the line, ascending, each with NEW's image where NEW has it. Each device is compiled once.
+fn plans_and_devices<R: Threads + Sync>(
+    rt: &R,
+    alloc: Global,
+    jobs: &[JobWord],
+    new: &Checked<'_, '_>,
+    old: &Checked<'_, '_>,
+) -> Result<(List<HubJob>, List<(IndAddr, Option<Image>)>), NoMemory>
+    ensures plans { IfOk result (λ r. ArePlanned new.now (map seen_job r.0) jobs.now) }
+    ensures devices { IfOk result (λ r. AreCompiled new.now r.1 (on_bus new.now old.now)) }
+{
+    let bus = on_bus(alloc, new, old)?;
+    let images = Images::of(rt, alloc, new, bus.as_slice())?;
+    let plans = all_planned(alloc, new, &images, jobs)?;
+    let devices = compiled(alloc, new, &images, bus.as_slice())?;
+    Ok((plans, devices))
+}
+
 /// What a run is begun with, over a line that has begun.
 fn order_of<R: Threads + Sync>(
     rt: &R,
@@ -54,11 +74,8 @@ fn order_of<R: Threads + Sync>(
     ensures prepared { IfOk result (λ order. IsPrepared new.now old.now script.now.lines named.now order) }
 {
     let jobs = jobs_of(alloc, named, new)?;
-    let bus = on_bus(alloc, new, old)?;
-    let images = Images::of(rt, alloc, new, bus.as_slice())?;
-    let plans = all_planned(alloc, new, &images, jobs.as_slice())?;
     let turns = turns_of(alloc, script)?;
-    let devices = compiled(alloc, new, &images, bus.as_slice())?;
+    let (plans, devices) = plans_and_devices(rt, alloc, jobs.as_slice(), new, old)?;
     Ok(Order {
         line,
         jobs,
