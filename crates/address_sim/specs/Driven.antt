@@ -29,6 +29,10 @@ RunsOut r = last_time < time r + 2 ^ 32
 abbrev pub FailsAtEnd : ℕ → RunNow → Type 0
 FailsAtEnd failed r = (failed ≡ 0) ⊎ RunsOut r
 
+-- so many failed and so many found no memory: none failed before its end, but behind one that found no memory, where each does
+abbrev pub FailsForCause : FaultCounts → RunNow → Type 0
+FailsForCause faults r = (0 < faults.wanting) ⊎ FailsAtEnd faults.failed r
+
 -- and a call fails otherwise than for want of memory only there
 abbrev pub FailsOut : {X : Type 0} → Result X LinkFault → RunNow → Type 0
 FailsOut result r = IfErr result (λ why. why ≡ fault.Failed → RunsOut r)

@@ -1,10 +1,10 @@
 //! The simulated bus.
 
-ghost use Rattle.std.specs.Prelude.{◌≡◌, [], IfOk, OnErr, OnOk, length};
+ghost use Rattle.std.specs.Prelude.{◌≡◌, ◌↔◌, [], IfOk, IsTrue, OnErr, OnOk, length};
 ghost use Rattle.address_world.specs.AddressLegal.{IsFresh, IsLegal};
 ghost use Rattle.address_world.specs.AddressStory.{record_of};
 ghost use Rattle.line_model.specs.Polled.{none_failed};
-ghost use Rattle.address_sim.specs.Driven.{FailsAtEnd, bus_of, nothing_run};
+ghost use Rattle.address_sim.specs.Driven.{FailsForCause, bus_of, nothing_run};
 ghost use Rattle.address_sim.specs.Follows.{FollowsText};
 ghost use Rattle.address_sim.specs.Told.{start, time, units_now};
 ghost use Rattle.address_sim.specs.Turns.{seen};
@@ -27,13 +27,13 @@ pub struct AddressBus {
 }
 
 impl Model for AddressBus {
-    ghost use Rattle.address_sim.specs.Driven.{BusNow, FailsAtEnd, bus_of};
+    ghost use Rattle.address_sim.specs.Driven.{BusNow, FailsForCause, bus_of};
 
     ghost Value = { BusNow };
 
     ghost view = { λ b. record { run = bus_of b.run; faults = b.faults } };
 
-    ghost invariant = { λ b. FailsAtEnd b.faults.failed (bus_of b.run) };
+    ghost invariant = { λ b. FailsForCause b.faults (bus_of b.run) };
 }
 
 impl AddressBus {
@@ -74,16 +74,23 @@ impl AddressBus {
     }
 
     /// What holds of each run, for a caller to know: its start is fresh, its events are legal, nothing is lost but what the text says, and no call of it failed
-    /// before its end. It does nothing.
+    /// before its end, but behind one that found no memory. It does nothing.
     pub fn keeps(&self)
         ensures fresh { IsFresh (start self.now.run) }
         ensures legal { IsLegal (start self.now.run) self.now.run.events }
         ensures follows { FollowsText self.now.run.begun.losses (start self.now.run) self.now.run.events }
-        ensures faults { FailsAtEnd self.now.faults.failed self.now.run }
+        ensures faults { FailsForCause self.now.faults self.now.run }
     {
         if let Some(run) = &self.run {
             run.keeps();
         }
+    }
+
+    /// Whether no call failed yet, and none found no memory.
+    pub(crate) fn is_sound(&self) -> bool
+        ensures { IsTrue result ↔ self.now.faults ≡ none_failed }
+    {
+        self.faults.is_none()
     }
 
     /// The time, in milliseconds.

@@ -1,7 +1,7 @@
 //! The simulated bus is driven: its run is called. A fault of a call is still to be counted.
 
-ghost use Rattle.std.specs.Prelude.{◌≡◌, OnErr, OnOk};
-ghost use Rattle.line_model.specs.Polled.{PollsSo, after_call};
+ghost use Rattle.std.specs.Prelude.{◌≡◌, ◌≢◌, OnErr, OnOk};
+ghost use Rattle.line_model.specs.Polled.{PollsSo, after_call, after_link_fault, none_failed};
 ghost use Rattle.address_world.specs.AddressWorld.{Send, Renew};
 ghost use Rattle.address_sim.specs.Driven.{FailsOut};
 ghost use Rattle.address_sim.specs.Told.{happened, story, time};
@@ -62,6 +62,16 @@ impl AddressBus {
             Some(octets) => Ok(Polled::Got(fill(into, &octets))),
             None => Ok(Polled::Quiet),
         }
+    }
+
+    /// What a call answers behind one that failed, or found no memory: it is refused, and counted as one that failed.
+    pub(crate) fn refuse(&mut self) -> LinkFault
+        requires { self.old.faults ≢ none_failed }
+        ensures run { self.new.run ≡ self.old.run }
+        ensures counts { self.new.faults ≡ after_link_fault result self.old.faults }
+    {
+        self.faults.fail();
+        LinkFault::Failed
     }
 
     /// What a call answers: where it failed, or found no memory, that is counted.

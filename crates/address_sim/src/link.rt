@@ -22,16 +22,25 @@ impl Link for AddressBus {
     ghost faults = { λ (b : BusNow). b.faults };
 
     fn send(&mut self, octets: &[u8]) -> Result<(), LinkFault> {
+        if !self.is_sound() {
+            return Err(self.refuse());
+        }
         let sent = self.send_to_run(octets);
         self.answer(sent)
     }
 
     fn renew(&mut self) -> Result<(), LinkFault> {
+        if !self.is_sound() {
+            return Err(self.refuse());
+        }
         let renewed = self.renew_run();
         self.answer(renewed)
     }
 
     fn poll(&mut self, into: &mut [u8; 512], wait_ms: u32) -> Result<Polled, LinkFault> {
+        if !self.is_sound() {
+            return Err(self.refuse());
+        }
         let polled = self.poll_run(into, wait_ms);
         self.answer(polled)
     }

@@ -1,13 +1,13 @@
 //! The simulated line.
 
-ghost use Rattle.std.specs.Prelude.{◌≡◌, true, [], IfErr, IfOk, OnErr, OnOk, length, option_copied};
+ghost use Rattle.std.specs.Prelude.{◌≡◌, ◌↔◌, true, [], IfErr, IfOk, IsTrue, OnErr, OnOk, length, option_copied};
 ghost use Rattle.knx_model.specs.ScriptText.{are_script_lines, first_stranger};
 ghost use Rattle.line_model.specs.Fresh.{IsFresh};
 ghost use Rattle.line_model.specs.Follows.{Follows};
 ghost use Rattle.line_model.specs.Legal.{IsLegal};
 ghost use Rattle.line_model.specs.Polled.{none_failed};
 ghost use Rattle.bus_sim.specs.Begun.{CanLoad, addresses};
-ghost use Rattle.bus_sim.specs.Ended.{FailsAtEnd};
+ghost use Rattle.bus_sim.specs.Ended.{FailsForCause};
 ghost use Rattle.bus_sim.specs.Loaded.{IsWant, PreparedSo, nothing_run};
 ghost use Rattle.bus_sim.specs.declared.clients.Clients.TheVariants.{One};
 ghost use Rattle.bus_sim.specs.RunNow.{mode, script, start, time, world};
@@ -31,14 +31,14 @@ pub struct SimBus {
 }
 
 impl Model for SimBus {
-    ghost use Rattle.bus_sim.specs.Ended.{FailsAtEnd};
+    ghost use Rattle.bus_sim.specs.Ended.{FailsForCause};
     ghost use Rattle.bus_sim.specs.Loaded.{BusNow, bus_of};
 
     ghost Value = { BusNow };
 
     ghost view = { λ b. record { run = bus_of b.run; faults = b.faults } };
 
-    ghost invariant = { λ b. FailsAtEnd b.faults.failed (bus_of b.run) };
+    ghost invariant = { λ b. FailsForCause b.faults (bus_of b.run) };
 }
 
 impl SimBus {
@@ -91,16 +91,23 @@ impl SimBus {
     }
 
     /// What holds of each run, for a caller to know: its start is fresh, its events are legal and follow the script, and no call of it failed before
-    /// its end, but where it serves. It does nothing.
+    /// its end, but where it serves, and behind one that found no memory. It does nothing.
     pub fn keeps(&self)
         ensures fresh { IsFresh (start self.now.run) }
         ensures legal { IsLegal (mode self.now.run) (start self.now.run) self.now.run.events }
         ensures follows { Follows (script self.now.run) (mode self.now.run) (start self.now.run) self.now.run.events }
-        ensures faults { FailsAtEnd self.now.faults.failed self.now.run }
+        ensures faults { FailsForCause self.now.faults self.now.run }
     {
         if let Some(run) = &self.run {
             run.keeps();
         }
+    }
+
+    /// Whether no call of the run failed yet, and none found no memory.
+    pub(crate) fn is_sound(&self) -> bool
+        ensures { IsTrue result ↔ self.now.faults ≡ none_failed }
+    {
+        self.faults.is_none()
     }
 
     /// The time of the line, in milliseconds.

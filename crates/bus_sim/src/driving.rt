@@ -1,7 +1,7 @@
 //! The simulated line is driven: its run is called, and the calls that fail are counted.
 
-ghost use Rattle.std.specs.Prelude.{◌≡◌, ◌⊎◌, ℕ, IfErr, IfOk, OnErr, OnOk};
-ghost use Rattle.line_model.specs.Polled.{PollsAs, after_link_fault, one_failed, one_wanting};
+ghost use Rattle.std.specs.Prelude.{◌≡◌, ◌≢◌, ◌⊎◌, ℕ, IfErr, IfOk, OnErr, OnOk};
+ghost use Rattle.line_model.specs.Polled.{PollsAs, after_link_fault, none_failed, one_failed, one_wanting};
 ghost use Rattle.line_model.specs.World.{Send, Renew};
 ghost use Rattle.bus_sim.specs.Ended.{IsAtEnd, IsServing, StopsFor};
 ghost use Rattle.bus_sim.specs.Loaded.{bus_of, nothing_run};
@@ -82,6 +82,16 @@ impl SimBus {
                 LinkFault::Failed
             }
         }
+    }
+
+    /// What a call answers behind one that failed, or found no memory: it is refused, and counted as one that failed.
+    pub(crate) fn refuse(&mut self) -> LinkFault
+        requires { self.old.faults ≢ none_failed }
+        ensures run { self.new.run ≡ self.old.run }
+        ensures counts { self.new.faults ≡ after_link_fault result self.old.faults }
+    {
+        self.faults.fail();
+        LinkFault::Failed
     }
 
     /// What a serving answers that broke off so.

@@ -19,6 +19,9 @@ impl Link for SimBus {
     ghost faults = { λ (b : BusNow). b.faults };
 
     fn send(&mut self, octets: &[u8]) -> Result<(), LinkFault> {
+        if !self.is_sound() {
+            return Err(self.refuse());
+        }
         match self.send_to_run(octets) {
             Ok(()) => Ok(()),
             Err(stopped) => Err(self.fault_of(stopped)),
@@ -26,6 +29,9 @@ impl Link for SimBus {
     }
 
     fn renew(&mut self) -> Result<(), LinkFault> {
+        if !self.is_sound() {
+            return Err(self.refuse());
+        }
         match self.renew_run() {
             Ok(()) => Ok(()),
             Err(stopped) => Err(self.fault_of(stopped)),
@@ -33,6 +39,9 @@ impl Link for SimBus {
     }
 
     fn poll(&mut self, into: &mut [u8; 512], wait_ms: u32) -> Result<Polled, LinkFault> {
+        if !self.is_sound() {
+            return Err(self.refuse());
+        }
         match self.poll_run(into, wait_ms) {
             Ok(polled) => Ok(polled),
             Err(stopped) => Err(self.fault_of(stopped)),

@@ -1,5 +1,5 @@
 -- How many calls failed, after one that was refused, or one of the port below.
-use Rattle.std.proofs.Common.{◌≡◌, ℕ, Result, Ok, Err, refl, ap, ◌∙◌, arith}
+use Rattle.std.proofs.Common.{◌≡◌, ◌<◌, ℕ, zero, suc, Result, Ok, Err, OnOk, refl, ap, ◌∙◌, arith}
 use Rattle.line_model.specs.declared.outside.port.PortFault.{PortFault}
 use Rattle.line_model.specs.declared.outside.port.PortFault.TheVariants as fault
 use Rattle.line_model.specs.PortStory.{after_call}
@@ -23,3 +23,12 @@ pub below_counts : {X : Type 0} (r : Result X PortFault) (below after n : ℕ) �
 below_counts (Ok x) below after n e = ap (λ b. faults_with b n) e
 below_counts (Err (fault.NoMemory want)) below after n e = ap (λ b. faults_with b n) e
 below_counts (Err fault.Failed) below after n e = ap (λ b. faults_with b n) e ∙ one_below below n
+
+-- where no call of the port below failed, none was refused
+none_refused : (below n : ℕ) → below ≡ 0 → (0 < n → 0 < below) → faults_with below n ≡ 0
+none_refused below zero none refuses = omega (arith, none)
+none_refused below (suc n) none refuses = let some : 0 < below = refuses (omega arith) in absurd (omega (arith, none, some))
+
+pub sound_below : {X : Type 0} (r : Result X PortFault) (below n : ℕ) → OnOk r (below ≡ 0) → (0 < n → 0 < below) → OnOk r (faults_with below n ≡ 0)
+sound_below (Ok x) below n none refuses = none_refused below n none refuses
+sound_below (Err why) below n none refuses = tt

@@ -117,6 +117,7 @@ fn answered<P: Port>(
     ensures broken { OnErr result (GivesOrNot to (answer_of about.now inquiry) (named_story port.old.own (P.story port.old.port)) (named_story port.new.own (P.story port.new.port))) }
     ensures kept { IfErr result (λ fault. failed.new ≡ Some fault) }
     ensures counts { P.faults port.new.port ≡ after_call result (P.faults port.old.port) }
+    ensures sound { OnOk result (P.faults port.old.port ≡ 0) }
     ensures own { port.new.own ≡ port.old.own }
 {
     let answer = answer_of(about, inquiry);
@@ -147,6 +148,7 @@ fn taken<P: Port>(
     ensures broken { IfErr result (λ fault. FailsFor fault about.now failed.new (named_story port.old.own (P.story port.old.port)) (named_story port.new.own (P.story port.new.port))) }
     ensures stands { OnOk result (failed.new ≡ None) }
     ensures counts { P.faults port.new.port ≡ after_call result (P.faults port.old.port) }
+    ensures sound { OnOk result (P.faults port.old.port ≡ 0) }
     ensures own { port.new.own ≡ port.old.own }
 {
     let polled = port.take(into, wait_ms)?;
@@ -169,10 +171,11 @@ impl<P: Port> Port for Answerer<P> {
 
     ghost faults = { λ a. faults_with (P.faults a.port.port) a.refused };
 
-    #[tactic(auto, using(crate::proofs::Refused::refused_counts, crate::proofs::Refused::below_counts, crate::proofs::Told::takes_told))]
+    #[tactic(auto, using(crate::proofs::Refused::refused_counts, crate::proofs::Refused::below_counts, crate::proofs::Refused::sound_below, crate::proofs::Told::takes_told))]
     fn take(&mut self, into: &mut [u8; 512], wait_ms: u32) -> Result<PortPolled, PortFault>
         ensures taken { TakesSo result into.new wait_ms (answerer_story self.old.port.own self.old.about self.old.failed (P.story self.old.port.port)) (answerer_story self.new.port.own self.new.about self.new.failed (P.story self.new.port.port)) }
         ensures counts { faults_with (P.faults self.new.port.port) self.new.refused ≡ after_call result (faults_with (P.faults self.old.port.port) self.old.refused) }
+        ensures sound { OnOk result (faults_with (P.faults self.old.port.port) self.old.refused ≡ 0) }
         ensures own { self.new.port.own ≡ self.old.port.own }
         ensures about { self.new.about ≡ self.old.about }
         // it fails only where the other port does; once an answer has failed, with that fault, and then nothing is done
@@ -186,11 +189,12 @@ impl<P: Port> Port for Answerer<P> {
         taken(&mut self.port, &self.about, &mut self.failed, into, wait_ms)
     }
 
-    #[tactic(auto, using(crate::proofs::Told::gave_told, crate::proofs::Told::gave_or_not_told, crate::proofs::Refused::refused_counts, crate::proofs::Refused::below_counts))]
+    #[tactic(auto, using(crate::proofs::Told::gave_told, crate::proofs::Told::gave_or_not_told, crate::proofs::Refused::refused_counts, crate::proofs::Refused::below_counts, crate::proofs::Refused::sound_below))]
     fn give(&mut self, to: u32, octets: &[u8]) -> Result<(), PortFault>
         ensures given { OnOk result (Adds (Gave to octets.now) (answerer_story self.old.port.own self.old.about self.old.failed (P.story self.old.port.port)) (answerer_story self.new.port.own self.new.about self.new.failed (P.story self.new.port.port))) }
         ensures failed { OnErr result (GivesOrNot to octets.now (answerer_story self.old.port.own self.old.about self.old.failed (P.story self.old.port.port)) (answerer_story self.new.port.own self.new.about self.new.failed (P.story self.new.port.port))) }
         ensures counts { faults_with (P.faults self.new.port.port) self.new.refused ≡ after_call result (faults_with (P.faults self.old.port.port) self.old.refused) }
+        ensures sound { OnOk result (faults_with (P.faults self.old.port.port) self.old.refused ≡ 0) }
         ensures below { self.old.failed ≡ None → P.faults self.new.port.port ≡ after_call result (P.faults self.old.port.port) }
         ensures own { self.new.port.own ≡ self.old.port.own }
         ensures about { self.new.about ≡ self.old.about }

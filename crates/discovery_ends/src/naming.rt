@@ -119,6 +119,7 @@ fn give_named<P: Port>(
     ensures given { OnOk result (Adds (Gave to (named own.now octets.now)) (P.story port.old) (P.story port.new)) }
     ensures failed { OnErr result (GivesOrNot to (named own.now octets.now) (P.story port.old) (P.story port.new)) }
     ensures counts { P.faults port.new ≡ after_call result (P.faults port.old) }
+    ensures sound { OnOk result (P.faults port.old ≡ 0) }
 {
     match place_in(octets) {
         Some(place) => port.give(to, exchanged_at(place, own, octets).as_slice()),
@@ -137,6 +138,7 @@ impl<P: Port> Port for NamedPort<P> {
     fn take(&mut self, into: &mut [u8; 512], wait_ms: u32) -> Result<PortPolled, PortFault>
         ensures taken { TakesSo result into.new wait_ms (named_story self.old.own (P.story self.old.port)) (named_story self.new.own (P.story self.new.port)) }
         ensures counts { P.faults self.new.port ≡ after_call result (P.faults self.old.port) }
+        ensures sound { OnOk result (P.faults self.old.port ≡ 0) }
         ensures own { self.new.own ≡ self.old.own }
     {
         self.port.take(into, wait_ms)
@@ -147,6 +149,7 @@ impl<P: Port> Port for NamedPort<P> {
         ensures given { OnOk result (Adds (Gave to octets.now) (named_story self.old.own (P.story self.old.port)) (named_story self.new.own (P.story self.new.port))) }
         ensures failed { OnErr result (GivesOrNot to octets.now (named_story self.old.own (P.story self.old.port)) (named_story self.new.own (P.story self.new.port))) }
         ensures counts { P.faults self.new.port ≡ after_call result (P.faults self.old.port) }
+        ensures sound { OnOk result (P.faults self.old.port ≡ 0) }
         ensures own { self.new.own ≡ self.old.own }
     {
         give_named(&mut self.port, &self.own, to, octets)

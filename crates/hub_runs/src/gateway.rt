@@ -317,17 +317,20 @@ impl Link for Gateway {
     ghost faults = { λ g. g.faults };
 
     fn send(&mut self, octets: &[u8]) -> Result<(), LinkFault> {
+        self.faults.begin()?;
         let sent = self.is_sent(octets);
         self.faults.count(sent)
     }
 
     fn renew(&mut self) -> Result<(), LinkFault> {
+        self.faults.begin()?;
         self.at = self.at.saturating_add(1);
         self.side.inbox.clear();
         Ok(())
     }
 
     fn poll(&mut self, into: &mut [u8; 512], wait_ms: u32) -> Result<Polled, LinkFault> {
+        self.faults.begin()?;
         let polled = self.gives(into, wait_ms);
         self.faults.count(polled)
     }

@@ -1,9 +1,10 @@
 //! The link to a gateway over UDP. It tells nothing of what it sends and gets; but what its caller sees of it is what he sees of a link that tells its
 //! record with a clock that runs: a sending is given to the socket whole, what is got is a datagram that came, each call that is answered is one
-//! entry, and the clock is read in polls alone and never runs back. What comes from another host than the gateway's is passed over.
+//! entry, and the clock is read in polls alone and never runs back. What comes from another host than the gateway's is passed over. Behind a call that
+//! failed, or found no memory, each fails, and nothing more is done at the socket.
 
 ghost use Rattle.std.specs.IoError.{error_kind};
-ghost use Rattle.std.specs.Prelude.{◌≡◌, ◌≤◌, Err, IfErr, IfOk, Ok, OnErr, OnOk};
+ghost use Rattle.std.specs.Prelude.{◌≡◌, ◌≢◌, ◌≤◌, Err, IfErr, IfOk, Ok, OnErr, OnOk};
 ghost use Rattle.knx_model.specs.Outside.{one_more};
 ghost use Rattle.line_model.specs.LinkStory.{Renews, RenewsOrNot, Sends, SendsOrNot, Untold};
 ghost use Rattle.line_model.specs.Polled.{PollsSo, after_call, none_failed};
@@ -48,11 +49,20 @@ impl<'a, R: Net + Clock, S: Datagrams> UdpLink<'a, R, S> {
         })
     }
 
-    /// How many calls failed, and how many found no memory.
+    /// How many calls failed, and how many found no memory, those that were refused behind such a one among them.
     pub fn faults(&self) -> FaultCounts
         ensures { result ≡ self.now.faults }
     {
         self.faults
+    }
+
+    /// A call begins. Behind one that failed, or found no memory, it is refused, and counted as one that failed.
+    fn begin(&mut self) -> Result<(), LinkFault>
+        ensures sound { OnOk result ((self.old.faults ≡ none_failed) × (self.new ≡ self.old)) }
+        ensures over { OnErr result (self.old.faults ≢ none_failed) }
+        ensures others { self.new ≡ record self.old { faults = after_call result self.old.faults } }
+    {
+        self.faults.begin()
     }
 
     /// Reads the clock; a time before the last one is that.
@@ -144,10 +154,13 @@ impl<R: Net + Clock, S: Datagrams> Link for UdpLink<'_, R, S> {
         ensures given { OnOk result (Gives (record { octets = octets.now; peer = self.old.gateway }) (S.sent self.old.socket) (S.sent self.new.socket)) }
         ensures gateway { self.new.gateway ≡ self.old.gateway }
         ensures counts { self.new.faults ≡ after_call result self.old.faults }
+        ensures sound { OnOk result (self.old.faults ≡ none_failed) }
+        ensures over { self.old.faults ≢ none_failed → self.new ≡ record self.old { faults = self.new.faults } }
         ensures time { self.new.time ≡ self.old.time }
         ensures events { self.old.done ≤ self.new.done }
         ensures entry { self.new.done ≡ entries_after result self.old.done }
     {
+        self.begin()?;
         let sent = self.put(octets);
         self.answer(sent)
     }
@@ -159,10 +172,13 @@ impl<R: Net + Clock, S: Datagrams> Link for UdpLink<'_, R, S> {
         ensures gateway { self.new.gateway ≡ self.old.gateway }
         ensures socket { OnErr result (self.new.socket ≡ self.old.socket) }
         ensures counts { self.new.faults ≡ after_call result self.old.faults }
+        ensures sound { OnOk result (self.old.faults ≡ none_failed) }
+        ensures over { self.old.faults ≢ none_failed → self.new ≡ record self.old { faults = self.new.faults } }
         ensures time { self.new.time ≡ self.old.time }
         ensures events { self.old.done ≤ self.new.done }
         ensures entry { self.new.done ≡ entries_after result self.old.done }
     {
+        self.begin()?;
         let renewed = self.bind_anew();
         self.answer(renewed)
     }
@@ -172,11 +188,14 @@ impl<R: Net + Clock, S: Datagrams> Link for UdpLink<'_, R, S> {
         ensures brings { IfOk result (λ polled. LinkBrings self.old.gateway polled into.new (S.coming self.old.socket) (S.coming self.new.socket)) }
         ensures gateway { self.new.gateway ≡ self.old.gateway }
         ensures counts { self.new.faults ≡ after_call result self.old.faults }
+        ensures sound { OnOk result (self.old.faults ≡ none_failed) }
+        ensures over { self.old.faults ≢ none_failed → self.new ≡ record self.old { faults = self.new.faults } }
         ensures time { self.old.time ≤ self.new.time }
         ensures failed { OnErr result (self.new.time ≡ self.old.time) }
         ensures events { self.old.done ≤ self.new.done }
         ensures entry { self.new.done ≡ entries_after result self.old.done }
     {
+        self.begin()?;
         let polled = self.receive(into, wait_ms);
         self.answer(polled)
     }
@@ -251,10 +270,15 @@ mod tests {
         stops.stop();
         // it is read in polls alone
         assert!(rt; link.send(b"sent").is_ok());
-        assert!(rt; !is_quiet(&mut link, 0));
         assert!(rt; link.renew().is_ok());
         assert!(rt; link.socket.local_addr()?.ip() == IpAddr::V4(Ipv4Addr::UNSPECIFIED));
+        assert!(rt; !is_quiet(&mut link, 0));
         assert_eq!(rt; link.faults().failed, 1);
+        // and a link that has failed is over
+        assert!(rt; link.send(b"sent").is_err());
+        assert!(rt; link.renew().is_err());
+        assert_eq!(rt; link.faults().failed, 3);
+        assert_eq!(rt; link.at(), 2);
         Ok(())
     }
 }

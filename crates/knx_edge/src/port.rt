@@ -1,7 +1,7 @@
 //! The port where the gateway serves its clients over UDP. It tells nothing of what it takes and gives.
 
 ghost use Rattle.std.specs.IoError.{error_kind};
-ghost use Rattle.std.specs.Prelude.{◌≡◌, ◌≤◌, [], Err, IfErr, IfOk, IfSome, Ok, OnErr, OnOk, slice_get};
+ghost use Rattle.std.specs.Prelude.{◌≡◌, ◌≢◌, ◌≤◌, [], Err, IfErr, IfOk, IfSome, Ok, OnErr, OnOk, slice_get};
 ghost use Rattle.line_model.specs.PortStory.{Adds, Gave, GivesOrNot, TakesSo, Untold, after_call};
 ghost use Rattle.knx_edge.specs.declared.socket.Senders.TheVariants.{Answerable};
 ghost use Rattle.knx_edge.specs.Datagrams.{BringsOf, GivesTo, NamesOn, PortBrings, port_fault_of};
@@ -17,7 +17,8 @@ use std::random::RandomSource;
 use std::time::{Clock, Instant};
 
 /// A port: a socket, and the clients from which datagrams came. A datagram doesn't begin a wait anew: one that goes on since then ends when its
-/// time is over, be there datagrams or not, so that quiet ends come however many datagrams do.
+/// time is over, be there datagrams or not, so that quiet ends come however many datagrams do. Behind a call that failed each fails, and nothing more is done at the
+/// socket.
 #[derive(Drop)]
 pub struct UdpPort<'a, R, S> {
     rt: &'a R,
@@ -42,11 +43,24 @@ impl<'a, R: Net + Clock + RandomSource, S: Datagrams> UdpPort<'a, R, S> {
         })
     }
 
-    /// How many calls failed.
+    /// How many calls failed, those that were refused behind such a one among them.
     pub fn faults(&self) -> u64
         ensures { result ≡ self.now.faults }
     {
         self.faults
+    }
+
+    /// A call begins. Behind one that failed it is refused, and counted.
+    fn begin(&mut self) -> Result<(), PortFault>
+        ensures sound { OnOk result ((self.old.faults ≡ 0) × (self.new ≡ self.old)) }
+        ensures over { OnErr result (self.old.faults ≢ 0) }
+        ensures others { self.new ≡ record self.old { faults = after_call result self.old.faults } }
+    {
+        if self.faults == 0 {
+            return Ok(());
+        }
+        self.faults = self.faults.saturating_add(1);
+        Err(PortFault::Failed)
     }
 
     /// What is left of the wait that goes on, or of the one that begins; none where it is over.
@@ -138,7 +152,10 @@ impl<R: Net + Clock + RandomSource, S: Datagrams> Port for UdpPort<'_, R, S> {
         ensures brings { IfOk result (λ polled. PortBrings polled into.new self.new.clients (S.coming self.old.socket) (S.coming self.new.socket)) }
         ensures clients { NamesOn self.old.clients self.new.clients }
         ensures counts { self.new.faults ≡ after_call result self.old.faults }
+        ensures sound { OnOk result (self.old.faults ≡ 0) }
+        ensures over { self.old.faults ≢ 0 → self.new ≡ record self.old { faults = self.new.faults } }
     {
+        self.begin()?;
         let taken = self.receive(into, wait_ms);
         self.answer(taken)
     }
@@ -149,7 +166,10 @@ impl<R: Net + Clock + RandomSource, S: Datagrams> Port for UdpPort<'_, R, S> {
         ensures put { OnOk result (GivesTo (slice_get self.old.clients to) octets.now (S.sent self.old.socket) (S.sent self.new.socket)) }
         ensures clients { self.new.clients ≡ self.old.clients }
         ensures counts { self.new.faults ≡ after_call result self.old.faults }
+        ensures sound { OnOk result (self.old.faults ≡ 0) }
+        ensures over { self.old.faults ≢ 0 → self.new ≡ record self.old { faults = self.new.faults } }
     {
+        self.begin()?;
         let given = self.put(to, octets);
         self.answer(given)
     }
@@ -231,6 +251,10 @@ mod tests {
         }
         assert!(rt; door.give(3, b"nobody").is_err());
         assert_eq!(rt; door.faults(), 1);
+        // and a port of which a call failed is over
+        assert!(rt; door.give(2, b"told").is_err());
+        assert!(rt; came(&mut door, 0).is_none());
+        assert_eq!(rt; door.faults(), 3);
         Ok(())
     }
 

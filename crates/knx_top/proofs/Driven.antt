@@ -6,7 +6,7 @@ use Rattle.bus_sim.specs.Loaded.{BusNow}
 use Rattle.bus_sim.specs.declared.clients.Clients.{Clients}
 use Rattle.bus_sim.specs.declared.clients.Clients.TheVariants.{One, Any}
 use Rattle.bus_sim.specs.Begun.{mode_of}
-use Rattle.bus_sim.specs.Ended.{FailsAtEnd, IsAtEnd}
+use Rattle.bus_sim.specs.Ended.{FailsForCause, IsAtEnd}
 use Rattle.bus_sim.specs.RunNow.{RunNow, mode, script, start, story, story_of}
 use Rattle.hub_core.specs.Commissioned.{TellsRun, WantsAtFirst, log_of}
 use Rattle.hub_core.specs.Seen.{AreJobs, tasks_seen}
@@ -27,7 +27,7 @@ use Rattle.line_model.specs.declared.group.GroupTurn.{GroupTurn}
 use Rattle.line_model.specs.Lines.{Script, script_of}
 use Rattle.line_model.specs.LinkStory.{Full, Story}
 use Rattle.line_model.specs.Log.{Job}
-use Rattle.line_model.specs.Polled.{after_fault, none_failed}
+use Rattle.line_model.specs.Polled.{after_fault, none_failed, one_failed}
 use Rattle.line_model.specs.StartOf.{BusOf}
 use Rattle.line_model.specs.Tunnel.{Commissions}
 use Rattle.line_model.specs.World.{World, Event}
@@ -84,7 +84,7 @@ same_start before after one goes =
 -- ---- a call of the line failed, or found no memory, exactly where that is told; and it failed only at the end of the run
 
 -- of a run that began with no count, on a line where nothing had happened
-module _ (report : Report) (begun line : BusNow) (none : begun.faults ≡ none_failed) (new : begun.run.events ≡ []) (one : line.run.begun.clients ≡ One) (ends : FailsAtEnd line.faults.failed line.run) where
+module _ (report : Report) (begun line : BusNow) (none : begun.faults ≡ none_failed) (new : begun.run.events ≡ []) (one : line.run.begun.clients ≡ One) (ends : FailsForCause line.faults line.run) where
   abbrev Told : Type 0
   Told = (line.faults ≡ after_fault report.fault none_failed) ⊎ (WantsAtFirst report × (line.run.events ≡ []) × (line.faults ≡ none_failed))
 
@@ -95,13 +95,14 @@ module _ (report : Report) (begun line : BusNow) (none : begun.faults ≡ none_f
   not_both : One ≡ Any → ⊥
   not_both e = cc
 
-  fails_last : FailsAtEnd line.faults.failed line.run → line.faults.failed ≡ 1 → IsAtEnd line.run
-  fails_last (inl never) failed = absurd (omega (arith, never, failed))
-  fails_last (inr (inl end)) failed = end
-  fails_last (inr (inr serves)) failed = absurd (not_both (sym one ∙ serves))
+  fails_last : FailsForCause line.faults line.run → line.faults ≡ one_failed none_failed → IsAtEnd line.run
+  fails_last (inl want) failed = absurd (let none_wanted : line.faults.wanting ≡ 0 = ap (λ (n : FaultCounts). n.wanting) failed in omega (arith, want, none_wanted))
+  fails_last (inr (inl never)) failed = absurd (let once : line.faults.failed ≡ 1 = ap (λ (n : FaultCounts). n.failed) failed in omega (arith, never, once))
+  fails_last (inr (inr (inl end))) failed = end
+  fails_last (inr (inr (inr serves))) failed = absurd (not_both (sym one ∙ serves))
 
   last_of : Told → report.fault ≡ Some LinkFailed → IsAtEnd line.run
-  last_of (inl so) failed = fails_last ends (ap (λ (n : FaultCounts). n.failed) (so ∙ ap (λ (o : Option HubFault). after_fault o none_failed) failed))
+  last_of (inl so) failed = fails_last ends (so ∙ ap (λ (o : Option HubFault). after_fault o none_failed) failed)
   last_of (inr first) failed = absurd (let e : Some (NoMemory tt) ≡ Some LinkFailed = sym first.0.wants ∙ failed in cc)
 
   pub counts_on_line : (line.faults ≡ after_fault report.fault begun.faults) ⊎ (WantsAtFirst report × (line ≡ begun)) → CountsOnLine report line

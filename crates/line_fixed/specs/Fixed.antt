@@ -1,13 +1,15 @@
 -- What links, ports and dialers of fixed data do: which datagram is given next, which calls fail, and what a call leaves. Calls are numbered
 -- from 1; a count stands still at the greatest number of 64 bits.
-use Rattle.std.specs.Prelude.{◌≡◌, ℕ, ◌<◌, ◌⊎◌, List, [], ◌∷◌, length, min, take, slice_get, Contains, Option, Some, None, Result, Ok, Err}
+use Rattle.std.specs.Prelude.{◌≡◌, ◌≢◌, ℕ, ◌<◌, ◌⊎◌, List, [], ◌∷◌, length, min, take, slice_get, Contains, Option, Some, None, Result, Ok, Err}
 use Rattle.std.specs.Option.{option_or}
 use Rattle.knx_model.specs.Outside.{one_more, greatest_count}
+use Rattle.line_model.specs.declared.outside.fault_counts.FaultCounts.{FaultCounts}
 use Rattle.line_model.specs.declared.outside.link.Polled.{Polled}
 use Rattle.line_model.specs.declared.outside.link.Polled.TheVariants as link_answer
 use Rattle.line_model.specs.declared.outside.port.PortPolled.{PortPolled}
 use Rattle.line_model.specs.declared.outside.port.PortPolled.TheVariants as port_answer
 use Rattle.line_model.specs.LinkStory.{Clock, Exact, Running}
+use Rattle.line_model.specs.Polled.{none_failed}
 use Rattle.line_model.specs.PortStory as of_port
 use Rattle.line_model.specs.PortStory.{PortItem}
 use Rattle.line_model.specs.Record.{Entry, Got, Quiet, entry, longest_got}
@@ -52,11 +54,16 @@ Answers (link_answer.Got n) into (Some octets) = (n ≡ min longest_got (length 
 Answers link_answer.Quiet into None = Unit {0}
 Answers polled into next = ⊥
 
--- a call fails where it is listed, or where the record has no room for its entry: its place or its time would pass the greatest number
-abbrev pub Fails : List ℕ → ℕ → List Entry → ℕ → Type 0
-Fails listed call entries time = Contains listed call ⊎ ((length entries ≡ greatest_count) ⊎ (greatest_count < time))
+-- a call fails behind one that failed or found no memory, where it is listed, or where the record has no room for its entry: its place or its time would pass the
+-- greatest number
+abbrev pub Fails : FaultCounts → List ℕ → ℕ → List Entry → ℕ → Type 0
+Fails faults listed call entries time = (faults ≢ none_failed) ⊎ (Contains listed call ⊎ ((length entries ≡ greatest_count) ⊎ (greatest_count < time)))
 
 -- ---- a port
+
+-- a call fails behind one that failed, or where it is listed
+abbrev pub FailsAtPort : ℕ → List ℕ → ℕ → Type 0
+FailsAtPort faults listed call = (faults ≢ 0) ⊎ Contains listed call
 
 -- the item of a taking, as the entry of a poll
 abbrev pub took : Option (ℕ × List ℕ) → ℕ → PortItem

@@ -1,4 +1,4 @@
-//! A link of which one call fails.
+//! A link of which one call fails, and each behind it.
 
 ghost use Rattle.std.specs.Prelude.{◌≡◌, ◌≢◌, ◌≤◌, Err, Ok, OnErr, OnOk};
 ghost use Rattle.knx_model.specs.Outside.{one_more};
@@ -8,7 +8,8 @@ ghost use Rattle.line_model.specs.declared.outside.link.LinkFault.TheVariants.{F
 
 use line_model::{FaultCounts, Link, LinkFault, Polled};
 
-/// A link that passes every call on to another, but the one with the number `fails_at`, from 1, which fails. It tells what the other tells.
+/// A link that passes every call on to another until one fails: that with the number `fails_at`, from 1, fails, and each behind one that failed or found no memory,
+/// and none of these is passed on. It tells what the other tells.
 #[derive(Drop)]
 pub struct FailingLink<L: Link> {
     pub link: L,
@@ -32,14 +33,14 @@ impl<L: Link> FailingLink<L> {
         }
     }
 
-    /// Counts a call; it fails where it is the one that does.
+    /// Counts a call; it fails where it is the one that does, and behind one that failed.
     fn begin(&mut self) -> Result<(), LinkFault>
         ensures after { self.new ≡ record self.old { calls = one_more self.old.calls; faults = after_call result self.old.faults } }
-        ensures fails { OnErr result ((result ≡ Err Failed) × (self.new.calls ≡ self.old.fails_at)) }
-        ensures passes { OnOk result (self.new.calls ≢ self.old.fails_at) }
+        ensures fails { OnErr result ((result ≡ Err Failed) × (self.old.faults ≡ none_failed → self.new.calls ≡ self.old.fails_at)) }
+        ensures passes { OnOk result ((self.old.faults ≡ none_failed) × (self.new.calls ≢ self.old.fails_at)) }
     {
         self.calls = self.calls.saturating_add(1);
-        if self.calls == self.fails_at {
+        if self.calls == self.fails_at || !self.faults.is_none() {
             return self.faults.count(Err(LinkFault::Failed));
         }
         Ok(())
@@ -61,13 +62,15 @@ impl<L: Link> Link for FailingLink<L> {
         ensures sent { OnOk result (Sends octets.now (L.story self.old.link) (L.story self.new.link)) }
         ensures failed { OnErr result (SendsOrNot octets.now (L.story self.old.link) (L.story self.new.link)) }
         ensures counts { self.new.faults ≡ after_call result self.old.faults }
+        ensures sound { OnOk result (self.old.faults ≡ none_failed) }
         ensures time { L.clock self.new.link ≡ L.clock self.old.link }
         ensures events { L.place self.old.link ≤ L.place self.new.link }
         ensures script { L.script self.new.link ≡ L.script self.old.link }
-        // the one call fails and isn't passed on; of another that fails the link's count rose
+        // the one call fails, and each behind one that failed, and isn't passed on; of another that fails the link's count rose
         ensures after { self.new ≡ record self.old { link = self.new.link; calls = one_more self.old.calls; faults = after_call result self.old.faults } }
         ensures fails { self.new.calls ≡ self.old.fails_at → (result ≡ Err Failed) × (self.new.link ≡ self.old.link) }
-        ensures passes { self.new.calls ≢ self.old.fails_at → L.faults self.new.link ≡ after_call result (L.faults self.old.link) }
+        ensures over { self.old.faults ≢ none_failed → (result ≡ Err Failed) × (self.new.link ≡ self.old.link) }
+        ensures passes { self.old.faults ≡ none_failed → self.new.calls ≢ self.old.fails_at → L.faults self.new.link ≡ after_call result (L.faults self.old.link) }
     {
         self.begin()?;
         let answer = self.link.send(octets);
@@ -78,12 +81,14 @@ impl<L: Link> Link for FailingLink<L> {
         ensures renewed { OnOk result (Renews (L.story self.old.link) (L.story self.new.link)) }
         ensures failed { OnErr result (RenewsOrNot (L.story self.old.link) (L.story self.new.link)) }
         ensures counts { self.new.faults ≡ after_call result self.old.faults }
+        ensures sound { OnOk result (self.old.faults ≡ none_failed) }
         ensures time { L.clock self.new.link ≡ L.clock self.old.link }
         ensures events { L.place self.old.link ≤ L.place self.new.link }
         ensures script { L.script self.new.link ≡ L.script self.old.link }
         ensures after { self.new ≡ record self.old { link = self.new.link; calls = one_more self.old.calls; faults = after_call result self.old.faults } }
         ensures fails { self.new.calls ≡ self.old.fails_at → (result ≡ Err Failed) × (self.new.link ≡ self.old.link) }
-        ensures passes { self.new.calls ≢ self.old.fails_at → L.faults self.new.link ≡ after_call result (L.faults self.old.link) }
+        ensures over { self.old.faults ≢ none_failed → (result ≡ Err Failed) × (self.new.link ≡ self.old.link) }
+        ensures passes { self.old.faults ≡ none_failed → self.new.calls ≢ self.old.fails_at → L.faults self.new.link ≡ after_call result (L.faults self.old.link) }
     {
         self.begin()?;
         let answer = self.link.renew();
@@ -93,12 +98,14 @@ impl<L: Link> Link for FailingLink<L> {
     fn poll(&mut self, into: &mut [u8; 512], wait_ms: u32) -> Result<Polled, LinkFault>
         ensures polled { PollsSo result into.new wait_ms (L.clock self.new.link) (L.story self.old.link) (L.story self.new.link) }
         ensures counts { self.new.faults ≡ after_call result self.old.faults }
+        ensures sound { OnOk result (self.old.faults ≡ none_failed) }
         ensures time { L.clock self.old.link ≤ L.clock self.new.link }
         ensures events { L.place self.old.link ≤ L.place self.new.link }
         ensures script { L.script self.new.link ≡ L.script self.old.link }
         ensures after { self.new ≡ record self.old { link = self.new.link; calls = one_more self.old.calls; faults = after_call result self.old.faults } }
         ensures fails { self.new.calls ≡ self.old.fails_at → (result ≡ Err Failed) × (self.new.link ≡ self.old.link) }
-        ensures passes { self.new.calls ≢ self.old.fails_at → L.faults self.new.link ≡ after_call result (L.faults self.old.link) }
+        ensures over { self.old.faults ≢ none_failed → (result ≡ Err Failed) × (self.new.link ≡ self.old.link) }
+        ensures passes { self.old.faults ≡ none_failed → self.new.calls ≢ self.old.fails_at → L.faults self.new.link ≡ after_call result (L.faults self.old.link) }
     {
         self.begin()?;
         let answer = self.link.poll(into, wait_ms);

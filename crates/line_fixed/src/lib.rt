@@ -1,5 +1,5 @@
 //! A line of fixed data, for tests: a link and a port that give what they were given and fail where they were told to, a link that passes all
-//! calls on but one, dialers that hand them out, and a watcher that keeps what it is told. Each tells what was
+//! calls on until one fails, dialers that hand them out, and a watcher that keeps what it is told. Each tells what was
 //! done.
 #![tactic(auto)]
 

@@ -18,7 +18,7 @@ use std::alloc::Global;
 
 /// A link that gives its datagrams in order, and then its last one for ever or quiet waits. It takes no time but in a quiet wait, unless it is told how
 /// long its polls last: then its clock runs. The calls with the numbers in `fails`, from 1, fail and do nothing else; so does one for which the record
-/// has no room.
+/// has no room, and each behind one that failed or found no memory.
 #[derive(Drop)]
 pub struct FixedLink {
     alloc: Global,
@@ -65,13 +65,16 @@ impl FixedLink {
         ensures after { self.new ≡ record self.old { calls = one_more self.old.calls } }
         ensures time { IfOk result (λ now. now ≡ newest_time self.old.entries + wait_ms) }
         ensures room { OnOk result (length self.old.entries < greatest_count) }
-        ensures fails { (result ≡ Err Failed) ↔ Fails self.old.fails self.new.calls self.old.entries (newest_time self.old.entries + wait_ms) }
+        ensures fails { (result ≡ Err Failed) ↔ Fails self.old.faults self.old.fails self.new.calls self.old.entries (newest_time self.old.entries + wait_ms) }
         ensures failed { OnErr result (result ≡ Err Failed) }
     {
         self.calls = self.calls.saturating_add(1);
+        if !self.faults.is_none() || self.fails.as_slice().contains(&self.calls) {
+            return Err(LinkFault::Failed);
+        }
         match self.entries.time_of_next(wait_ms) {
-            Some(now) if !self.fails.as_slice().contains(&self.calls) => Ok(now),
-            _ => Err(LinkFault::Failed),
+            Some(now) => Ok(now),
+            None => Err(LinkFault::Failed),
         }
     }
 
@@ -104,7 +107,7 @@ impl FixedLink {
         ensures time { newest_time self.new.entries ≡ newest_time self.old.entries }
         ensures after { self.new ≡ record self.old { calls = one_more self.old.calls; entries = with_entry result (entry (Put octets.now) (newest_time self.old.entries)) self.old.entries } }
         ensures events { length self.old.entries ≤ length self.new.entries }
-        ensures fails { (result ≡ Err Failed) ↔ Fails self.old.fails self.new.calls self.old.entries (newest_time self.old.entries) }
+        ensures fails { (result ≡ Err Failed) ↔ Fails self.old.faults self.old.fails self.new.calls self.old.entries (newest_time self.old.entries) }
     {
         let now = self.begin(0)?;
         let octets = Octets::from_slice(self.alloc, octets)?;
@@ -119,7 +122,7 @@ impl FixedLink {
         ensures time { newest_time self.new.entries ≡ newest_time self.old.entries }
         ensures after { self.new ≡ record self.old { calls = one_more self.old.calls; entries = with_entry result (entry Renewed (newest_time self.old.entries)) self.old.entries } }
         ensures events { length self.old.entries ≤ length self.new.entries }
-        ensures fails { (result ≡ Err Failed) ↔ Fails self.old.fails self.new.calls self.old.entries (newest_time self.old.entries) }
+        ensures fails { (result ≡ Err Failed) ↔ Fails self.old.faults self.old.fails self.new.calls self.old.entries (newest_time self.old.entries) }
     {
         let now = self.begin(0)?;
         self.entries.add(Item::Renewed, now)?;
@@ -132,7 +135,7 @@ impl FixedLink {
         ensures time { newest_time self.old.entries ≤ newest_time self.new.entries }
         ensures after { let next = next_of self.old.gives self.old.last self.old.answered in let now = brought next (newest_time self.old.entries + lasts (slice_get self.old.lasting self.old.answered) next wait_ms) in self.new ≡ record self.old { calls = one_more self.old.calls; answered = with_answer result self.old.answered; entries = with_entry result now self.old.entries } }
         ensures events { length self.old.entries ≤ length self.new.entries }
-        ensures fails { let next = next_of self.old.gives self.old.last self.old.answered in let now = brought next (newest_time self.old.entries + lasts (slice_get self.old.lasting self.old.answered) next wait_ms) in (result ≡ Err Failed) ↔ Fails self.old.fails self.new.calls self.old.entries now.now }
+        ensures fails { let next = next_of self.old.gives self.old.last self.old.answered in let now = brought next (newest_time self.old.entries + lasts (slice_get self.old.lasting self.old.answered) next wait_ms) in (result ≡ Err Failed) ↔ Fails self.old.faults self.old.fails self.new.calls self.old.entries now.now }
         ensures answer { IfOk result (λ polled. Answers polled into.new (next_of self.old.gives self.old.last self.old.answered)) }
     {
         let now = self.begin(self.wait_of(wait_ms))?;
@@ -184,11 +187,12 @@ impl Link for FixedLink {
         ensures sent { OnOk result (Sends octets.now (Recorded (clock_by self.old.lasting) self.old.entries) (Recorded (clock_by self.new.lasting) self.new.entries)) }
         ensures failed { OnErr result (SendsOrNot octets.now (Recorded (clock_by self.old.lasting) self.old.entries) (Recorded (clock_by self.new.lasting) self.new.entries)) }
         ensures counts { self.new.faults ≡ after_call result self.old.faults }
+        ensures sound { OnOk result (self.old.faults ≡ none_failed) }
         ensures time { newest_time self.new.entries ≡ newest_time self.old.entries }
         ensures events { length self.old.entries ≤ length self.new.entries }
         // a call adds its entry, or fails and adds nothing
         ensures after { self.new ≡ record self.old { calls = one_more self.old.calls; faults = after_call result self.old.faults; entries = with_entry result (entry (Put octets.now) (newest_time self.old.entries)) self.old.entries } }
-        ensures fails { (result ≡ Err Failed) ↔ Fails self.old.fails self.new.calls self.old.entries (newest_time self.old.entries) }
+        ensures fails { (result ≡ Err Failed) ↔ Fails self.old.faults self.old.fails self.new.calls self.old.entries (newest_time self.old.entries) }
     {
         let sent = self.put(octets);
         self.faults.count(sent)
@@ -198,10 +202,11 @@ impl Link for FixedLink {
         ensures renewed { OnOk result (Renews (Recorded (clock_by self.old.lasting) self.old.entries) (Recorded (clock_by self.new.lasting) self.new.entries)) }
         ensures failed { OnErr result (RenewsOrNot (Recorded (clock_by self.old.lasting) self.old.entries) (Recorded (clock_by self.new.lasting) self.new.entries)) }
         ensures counts { self.new.faults ≡ after_call result self.old.faults }
+        ensures sound { OnOk result (self.old.faults ≡ none_failed) }
         ensures time { newest_time self.new.entries ≡ newest_time self.old.entries }
         ensures events { length self.old.entries ≤ length self.new.entries }
         ensures after { self.new ≡ record self.old { calls = one_more self.old.calls; faults = after_call result self.old.faults; entries = with_entry result (entry Renewed (newest_time self.old.entries)) self.old.entries } }
-        ensures fails { (result ≡ Err Failed) ↔ Fails self.old.fails self.new.calls self.old.entries (newest_time self.old.entries) }
+        ensures fails { (result ≡ Err Failed) ↔ Fails self.old.faults self.old.fails self.new.calls self.old.entries (newest_time self.old.entries) }
     {
         let renewed = self.take_endpoint();
         self.faults.count(renewed)
@@ -210,11 +215,12 @@ impl Link for FixedLink {
     fn poll(&mut self, into: &mut [u8; LONGEST_GOT], wait_ms: u32) -> Result<Polled, LinkFault>
         ensures polled { PollsSo result into.new wait_ms (newest_time self.new.entries) (Recorded (clock_by self.old.lasting) self.old.entries) (Recorded (clock_by self.new.lasting) self.new.entries) }
         ensures counts { self.new.faults ≡ after_call result self.old.faults }
+        ensures sound { OnOk result (self.old.faults ≡ none_failed) }
         ensures time { newest_time self.old.entries ≤ newest_time self.new.entries }
         ensures events { length self.old.entries ≤ length self.new.entries }
         // a call brings the next datagram or a quiet wait, or it fails and brings nothing
         ensures after { let next = next_of self.old.gives self.old.last self.old.answered in let now = brought next (newest_time self.old.entries + lasts (slice_get self.old.lasting self.old.answered) next wait_ms) in self.new ≡ record self.old { calls = one_more self.old.calls; faults = after_call result self.old.faults; answered = with_answer result self.old.answered; entries = with_entry result now self.old.entries } }
-        ensures fails { let next = next_of self.old.gives self.old.last self.old.answered in let now = brought next (newest_time self.old.entries + lasts (slice_get self.old.lasting self.old.answered) next wait_ms) in (result ≡ Err Failed) ↔ Fails self.old.fails self.new.calls self.old.entries now.now }
+        ensures fails { let next = next_of self.old.gives self.old.last self.old.answered in let now = brought next (newest_time self.old.entries + lasts (slice_get self.old.lasting self.old.answered) next wait_ms) in (result ≡ Err Failed) ↔ Fails self.old.faults self.old.fails self.new.calls self.old.entries now.now }
         ensures answer { IfOk result (λ polled. Answers polled into.new (next_of self.old.gives self.old.last self.old.answered)) }
     {
         let polled = self.wait(into, wait_ms);

@@ -1,10 +1,10 @@
 //! A port of fixed data.
 
-ghost use Rattle.std.specs.Prelude.{◌≡◌, ◌↔◌, [], Contains, Err, IfOk, OnErr, OnOk, slice_get};
+ghost use Rattle.std.specs.Prelude.{◌≡◌, ◌↔◌, [], Err, IfOk, OnErr, OnOk, slice_get};
 ghost use Rattle.knx_model.specs.Outside.{one_more};
 ghost use Rattle.line_model.specs.PortStory.{Adds, Gave, GivesOrNot, Recorded, TakesSo, after_call};
 ghost use Rattle.line_model.specs.declared.outside.port.PortFault.TheVariants.{Failed};
-ghost use Rattle.line_fixed.specs.Fixed.{AnswersPort, took, with_answer, with_entry};
+ghost use Rattle.line_fixed.specs.Fixed.{AnswersPort, FailsAtPort, took, with_answer, with_entry};
 ghost use Rattle.line_fixed.specs.PortItems.{told};
 
 use crate::next::{LONGEST_GOT, copy_into};
@@ -14,7 +14,7 @@ use line_model::{Port, PortFault, PortPolled};
 use std::alloc::Global;
 
 /// A port that gives its datagrams with their senders in order, and then quiet waits, and takes what it is given. The calls with the numbers
-/// in `fails`, from 1, fail and do nothing else.
+/// in `fails`, from 1, fail and do nothing else, and so does each behind one that failed.
 #[derive(Drop)]
 pub struct FixedPort {
     alloc: Global,
@@ -46,14 +46,14 @@ impl FixedPort {
         }
     }
 
-    /// Counts a call; it fails where it is listed.
+    /// Counts a call; it fails where it is listed, and behind one that failed.
     fn begin(&mut self) -> Result<(), PortFault>
         ensures after { self.new ≡ record self.old { calls = one_more self.old.calls; faults = after_call result self.old.faults } }
-        ensures fails { (result ≡ Err Failed) ↔ Contains self.old.fails self.new.calls }
+        ensures fails { (result ≡ Err Failed) ↔ FailsAtPort self.old.faults self.old.fails self.new.calls }
         ensures failed { OnErr result (result ≡ Err Failed) }
     {
         self.calls = self.calls.saturating_add(1);
-        if self.fails.as_slice().contains(&self.calls) {
+        if self.faults > 0 || self.fails.as_slice().contains(&self.calls) {
             self.faults = self.faults.saturating_add(1);
             return Err(PortFault::Failed);
         }
@@ -96,9 +96,10 @@ impl Port for FixedPort {
     fn take(&mut self, into: &mut [u8; LONGEST_GOT], wait_ms: u32) -> Result<PortPolled, PortFault>
         ensures taken { TakesSo result into.new wait_ms (Recorded self.old.items) (Recorded self.new.items) }
         ensures counts { self.new.faults ≡ after_call result self.old.faults }
+        ensures sound { OnOk result (self.old.faults ≡ 0) }
         // a call takes the next datagram or waits quietly, or it fails and does nothing
         ensures after { self.new ≡ record self.old { calls = one_more self.old.calls; faults = after_call result self.old.faults; answered = with_answer result self.old.answered; items = with_entry result (took (slice_get self.old.gives self.old.answered) wait_ms) self.old.items } }
-        ensures fails { (result ≡ Err Failed) ↔ Contains self.old.fails self.new.calls }
+        ensures fails { (result ≡ Err Failed) ↔ FailsAtPort self.old.faults self.old.fails self.new.calls }
         ensures answer { IfOk result (λ polled. AnswersPort polled into.new (slice_get self.old.gives self.old.answered)) }
     {
         self.begin()?;
@@ -118,8 +119,9 @@ impl Port for FixedPort {
         ensures given { OnOk result (Adds (Gave to octets.now) (Recorded self.old.items) (Recorded self.new.items)) }
         ensures failed { OnErr result (GivesOrNot to octets.now (Recorded self.old.items) (Recorded self.new.items)) }
         ensures counts { self.new.faults ≡ after_call result self.old.faults }
+        ensures sound { OnOk result (self.old.faults ≡ 0) }
         ensures after { self.new ≡ record self.old { calls = one_more self.old.calls; faults = after_call result self.old.faults; items = with_entry result (Gave to octets.now) self.old.items } }
-        ensures fails { (result ≡ Err Failed) ↔ Contains self.old.fails self.new.calls }
+        ensures fails { (result ≡ Err Failed) ↔ FailsAtPort self.old.faults self.old.fails self.new.calls }
     {
         self.begin()?;
         let octets = Octets::from_slice(self.alloc, octets)?;

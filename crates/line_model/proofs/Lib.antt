@@ -22,3 +22,4 @@ pub mod Entries
 pub mod Moments
 pub mod Strays
 pub mod Taken
+pub mod NoneFailed

@@ -168,53 +168,54 @@ fn a_link_without_datagrams_is_quiet_for_the_whole_wait(rt: HostRuntime) -> Resu
 }
 
 #[test]
-fn a_link_fails_where_it_is_told_to(rt: HostRuntime) -> Result<(), Fail> {
-    let mut link = link_of(rt.alloc(), &[1, 2], None, &[1, 3, 4, 7])?;
+fn a_link_fails_where_it_is_told_to_and_from_then_on(rt: HostRuntime) -> Result<(), Fail> {
+    let mut link = link_of(rt.alloc(), &[1, 2], None, &[4])?;
     let rows = [
-        (Call::Send, Answer::Fails),
         (Call::Send, Answer::Done),
-        (Call::Renew, Answer::Fails),
-        (poll(10), Answer::Fails),
         (poll(10), got(1, 0, 0)),
-        (poll(10), got(2, 0, 0)),
+        (Call::Renew, Answer::Done),
         (poll(10), Answer::Fails),
-        (poll(10), Answer::Quiet),
+        (poll(10), Answer::Fails),
+        (Call::Send, Answer::Fails),
+        (Call::Renew, Answer::Fails),
     ];
     assert_eq!(rt; link_differs(&mut link, &rows), None);
-    assert_eq!(rt; link.now(), 10);
-    assert_eq!(rt; link.at(), 4);
-    assert_eq!(rt; link.faults.failed, 4);
+    assert_eq!(rt; link.now(), 0);
+    assert_eq!(rt; link.at(), 3);
+    assert_eq!(rt; (link.calls, link.faults.failed), (7, 4));
     Ok(())
 }
 
 #[test]
-fn one_call_is_not_passed_on(rt: HostRuntime) -> Result<(), Fail> {
-    let mut link = FailingLink::new(link_of(rt.alloc(), &[1], None, &[3])?, 2);
+fn from_a_failed_call_on_none_is_passed_on(rt: HostRuntime) -> Result<(), Fail> {
     let rows = [
         (Call::Send, Answer::Done),
         (poll(10), Answer::Fails),
-        (poll(10), got(1, 0, 0)),
+        (poll(10), Answer::Fails),
         (Call::Renew, Answer::Fails),
-        (Call::Renew, Answer::Done),
     ];
-    assert_eq!(rt; link_differs(&mut link, &rows), None);
-    assert_eq!(rt; link.faults.failed, 2);
-    assert_eq!(rt; link.link.calls, 4);
-    assert_eq!(rt; link.at(), 3);
+    // the second call fails, here and there
+    for (fails, fails_at, passed_on) in [(&[] as &[u64], 2, 1), (&[2], 0, 2)] {
+        let mut link = FailingLink::new(link_of(rt.alloc(), &[1], None, fails)?, fails_at);
+        assert_eq!(rt; link_differs(&mut link, &rows), None);
+        assert_eq!(rt; link.faults.failed, 3);
+        assert_eq!(rt; link.link.calls, passed_on);
+        assert_eq!(rt; link.at(), 1);
+    }
     Ok(())
 }
 
 #[test]
 fn a_port_gives_its_datagrams_and_takes_what_it_is_given(rt: HostRuntime) -> Result<(), Fail> {
-    let mut port = port_of(rt.alloc(), &[(4, 512), (5, 513), (4, 0)], &[2, 6])?;
+    let mut port = port_of(rt.alloc(), &[(4, 512), (5, 513), (4, 0)], &[6])?;
     let rows = [
         (Call::Take, got(512, 4, 6)),
-        (Call::Take, Answer::Fails),
         (Call::Take, got(512, 5, 6)),
         (Call::Take, got(0, 4, 6)),
         (Call::Take, Answer::Quiet),
-        (Call::Give, Answer::Fails),
         (Call::Give, Answer::Done),
+        (Call::Give, Answer::Fails),
+        (Call::Take, Answer::Fails),
     ];
     assert_eq!(rt; port_differs(&mut port, &rows), None);
     assert_eq!(rt; port.faults, 2);

@@ -1,5 +1,5 @@
 -- `assign`: what it comes to, and what is written of it.
-use Rattle.std.proofs.Common.{◌≡◌, ◌≢◌, ℕ, ◌∙◌, ap, true, ◌⊎◌, Option, None, Some, List, [], ◌∷◌, Result, Ok, Err, refl, sym, subst, inl, inr}
+use Rattle.std.proofs.Common.{◌≡◌, ◌≢◌, ℕ, ◌∙◌, ap, true, ◌⊎◌, Option, None, Some, List, [], ◌∷◌, Result, Ok, Err, refl, sym, subst, inl, inr, arith}
 use Rattle.std.specs.Prelude.{map}
 use Rattle.address_talk.specs.Ends.{EndsSo, after_assign_fault}
 use Rattle.address_talk.specs.declared.assigned.AssignFault.{AssignFault}
@@ -9,7 +9,7 @@ use Rattle.address_law.specs.Determined.{IsDetermined}
 use Rattle.address_commission.specs.Always.{KeepsChannel}
 use Rattle.address_commission.specs.Counted.{CountsEnd}
 use Rattle.address_commission.specs.Exact.{WhereClock}
-use Rattle.address_sim.specs.Driven.{BusNow, FailsAtEnd}
+use Rattle.address_sim.specs.Driven.{BusNow, FailsAtEnd, FailsForCause}
 use Rattle.address_sim.specs.Follows.{FollowsText}
 use Rattle.address_sim.specs.Stays.{lines_of}
 use Rattle.address_sim.specs.Told.{Begun, RunNow, at_rest, start, start_of, story, told as told_of, units_now}
@@ -29,7 +29,7 @@ use Rattle.knx_model.specs.declared.address.IndAddr.{IndAddr}
 use Rattle.knx_model.specs.Outside.{FilesNow, one_more}
 use Rattle.line_model.specs.Dialled.{Address, DialerNow, Tells, with_link}
 use Rattle.line_model.specs.LinkStory.{Story}
-use Rattle.line_model.specs.Polled.{none_failed, one_failed}
+use Rattle.line_model.specs.Polled.{none_failed, one_failed, one_wanting}
 use Rattle.line_model.specs.Record.{entries}
 use Rattle.line_model.specs.declared.outside.fault_counts.FaultCounts.{FaultCounts}
 use Rattle.tunnel_link.specs.Rights.{WhereTold}
@@ -215,10 +215,25 @@ determined_on wanted text after came determine buses begun follows nothing =
     subst (λ (units : List BusUnit). IsDetermined wanted units (units_now after.run) came) (ap (λ (z : Begun). map shown (start_of z).units) begun ∙ shown_rest text.0)
     (determine (start after.run) after.run.events refl (buses text.1 (start after.run) after.run.events follows nothing))
 
+-- one call at most failed, and none behind one that found no memory: so it did at the end
+one_at_end : (faults so : FaultCounts) (r : RunNow) → faults ≡ so → (so.failed ≡ 0) ⊎ (so.wanting ≡ 0) → FailsForCause faults r → FailsAtEnd faults.failed r
+one_at_end faults so r is one (inr end) = end
+one_at_end faults so r is (inl none) (inl want) = inl (ap (λ (n : FaultCounts). n.failed) is ∙ none)
+one_at_end faults so r is (inr none) (inl want) = absurd (let none_wanted : faults.wanting ≡ 0 = ap (λ (n : FaultCounts). n.wanting) is ∙ none in omega (arith, want, none_wanted))
+
+at_end : (wanted : IndAddr) (came : Outcome) (faults : FaultCounts) (r : RunNow) (last : Story) → CountsEnd wanted came none_failed faults last → FailsForCause faults r → FailsAtEnd faults.failed r
+at_end wanted (Ok assigned) faults r last (inl none) cause = one_at_end faults none_failed r none.0 (inl refl) cause
+at_end wanted (Ok assigned) faults r last (inr failed) cause = one_at_end faults (one_failed none_failed) r failed (inr refl) cause
+at_end wanted (Err (fault.NoMemory want)) faults r last counts cause = one_at_end faults (one_wanting none_failed) r counts (inl refl) cause
+at_end wanted (Err fault.LinkFailed) faults r last counts cause = one_at_end faults (one_failed none_failed) r counts (inr refl) cause
+at_end wanted (Err fault.TunnelLost) faults r last counts cause = one_at_end faults none_failed r counts (inl refl) cause
+at_end wanted (Err (fault.GatewayRefused three)) faults r last counts cause = one_at_end faults none_failed r counts (inl refl) cause
+at_end wanted (Err fault.Flooded) faults r last counts cause = one_at_end faults none_failed r counts (inl refl) cause
+
 pub given_sim : (wanted : IndAddr) (text : Units) (bus after : BusNow) (came : Outcome) → BeginsAs wanted (Ok text) bus → ((one other : Begun) → lines_of one ≡ lines_of other → one ≡ other) → QuietBuses → QuietTexts → lines_of after.run.begun ≡ lines_of bus.run.begun
     → IsFresh (start after.run) → IsLegal (start after.run) after.run.events → FollowsText after.run.begun.losses (start after.run) after.run.events
     → ((from : AddressWorld) (events : List AddressEvent) → told_of after.run ≡ Told from events → AlwaysKeepsUnits wanted from events) → UnitsDetermine wanted after came → bus.faults ≡ none_failed
-    → FailsAtEnd after.faults.failed after.run → WhereClock (EndsSo wanted came) (story after.run) → WhereTold KeepsChannel (story after.run) → WhereTold (λ places. PutsOnly wanted (entries places)) (story after.run)
+    → FailsForCause after.faults after.run → WhereClock (EndsSo wanted came) (story after.run) → WhereTold KeepsChannel (story after.run) → WhereTold (λ places. PutsOnly wanted (entries places)) (story after.run)
     → CountsEnd wanted came bus.faults after.faults (story after.run) → GivesOnBus wanted text after came
 given_sim wanted text bus after came b law buses texts same fresh legal follows units determine none faults ended channel puts counts =
     let begun : after.run.begun ≡ begun_by wanted text = law after.run.begun bus.run.begun same ∙ run_begun wanted text bus b in
@@ -233,7 +248,7 @@ given_sim wanted text bus after came b law buses texts same fresh legal follows 
       nothing_lost = lost_nothing text after texts follows_it;
       determined = determined_on wanted text after came determine buses begun follows_it;
       over = record { ends = ended; channel = channel; puts = puts; counts = counts_new };
-      last = faults;
+      last = at_end wanted came after.faults after.run (story after.run) counts_new faults;
     }
 
 -- what was judged has begun a bus on which nothing was done

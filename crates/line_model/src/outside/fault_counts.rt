@@ -1,8 +1,9 @@
 //! How many calls failed, and how many found no memory.
 
-ghost use Rattle.std.specs.Prelude.{◌≡◌};
+ghost use Rattle.std.specs.Prelude.{◌≡◌, ◌≢◌, ◌↔◌, Err, IsTrue, OnErr, OnOk};
 ghost use Rattle.line_model.specs.Dialled.{taking_back, with_link, with_port};
 ghost use Rattle.line_model.specs.Polled.{after_call, none_failed, one_failed, one_wanting};
+ghost use Rattle.line_model.specs.declared.outside.link.LinkFault.TheVariants.{Failed};
 
 use crate::outside::link::LinkFault;
 
@@ -22,6 +23,25 @@ impl FaultCounts {
             failed: 0,
             wanting: 0,
         }
+    }
+
+    /// Whether no call failed yet, and none found no memory.
+    pub fn is_none(&self) -> bool
+        ensures { IsTrue result ↔ self.now ≡ none_failed }
+    {
+        self.failed == 0 && self.wanting == 0
+    }
+
+    /// A call of a link begins. Behind one that failed, or found no memory, it is refused, and counted as one that failed.
+    pub fn begin(&mut self) -> Result<(), LinkFault>
+        ensures sound { OnOk result ((self.old ≡ none_failed) × (self.new ≡ self.old)) }
+        ensures over { OnErr result ((self.old ≢ none_failed) × (result ≡ Err Failed)) }
+        ensures counts { self.new ≡ after_call result self.old }
+    {
+        if self.is_none() {
+            return Ok(());
+        }
+        self.count(Err(LinkFault::Failed))
     }
 
     /// Counts an answer, where it is a fault.

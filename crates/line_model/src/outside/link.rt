@@ -2,7 +2,7 @@
 
 ghost use Rattle.std.specs.Prelude.{◌≡◌, ◌≤◌, ℕ, OnOk, OnErr};
 ghost use Rattle.line_model.specs.LinkStory.{Story, IsTime, IsPlace, Sends, SendsOrNot, Renews, RenewsOrNot};
-ghost use Rattle.line_model.specs.Polled.{PollsSo, after_call};
+ghost use Rattle.line_model.specs.Polled.{PollsSo, after_call, none_failed};
 
 use knx_model::NoMemory;
 
@@ -35,8 +35,8 @@ pub enum Polled {
     Quiet,
 }
 
-/// Sends datagrams to the gateway and gets those that come. Its clock is read in polls alone. A link that tells something of itself fails before its
-/// time or its place would pass the greatest number of 64 bits.
+/// Sends datagrams to the gateway and gets those that come. Its clock is read in polls alone. A link that failed once, or found no memory, is over: it answers
+/// no call any more. One that tells something of itself fails before its time or its place would pass the greatest number of 64 bits.
 pub trait Link: Drop {
     ghost use Rattle.line_model.specs.LinkStory.{Story};
     ghost use Rattle.line_model.specs.Lines.{Script};
@@ -63,6 +63,7 @@ pub trait Link: Drop {
         ensures sent { OnOk result (Sends octets.now (story self.old) (story self.new)) }
         ensures failed { OnErr result (SendsOrNot octets.now (story self.old) (story self.new)) }
         ensures counts { faults self.new ≡ after_call result (faults self.old) }
+        ensures sound { OnOk result (faults self.old ≡ none_failed) }
         ensures time { clock self.new ≡ clock self.old }
         ensures events { place self.old ≤ place self.new }
         ensures script { script self.new ≡ script self.old };
@@ -72,6 +73,7 @@ pub trait Link: Drop {
         ensures renewed { OnOk result (Renews (story self.old) (story self.new)) }
         ensures failed { OnErr result (RenewsOrNot (story self.old) (story self.new)) }
         ensures counts { faults self.new ≡ after_call result (faults self.old) }
+        ensures sound { OnOk result (faults self.old ≡ none_failed) }
         ensures time { clock self.new ≡ clock self.old }
         ensures events { place self.old ≤ place self.new }
         ensures script { script self.new ≡ script self.old };
@@ -80,6 +82,7 @@ pub trait Link: Drop {
     fn poll(&mut self, into: &mut [u8; 512], wait_ms: u32) -> Result<Polled, LinkFault>
         ensures polled { PollsSo result into.new wait_ms (clock self.new) (story self.old) (story self.new) }
         ensures counts { faults self.new ≡ after_call result (faults self.old) }
+        ensures sound { OnOk result (faults self.old ≡ none_failed) }
         ensures time { clock self.old ≤ clock self.new }
         ensures events { place self.old ≤ place self.new }
         ensures script { script self.new ≡ script self.old };

@@ -34,7 +34,7 @@ pub enum PortPolled {
     Quiet,
 }
 
-/// Takes datagrams of clients and gives them those of the gateway.
+/// Takes datagrams of clients and gives them those of the gateway. A port of which a call failed is over: it answers no call any more.
 pub trait Port: Drop {
     ghost use Rattle.line_model.specs.PortStory.{PortStory};
     ghost use Rattle.std.specs.Prelude.{ℕ};
@@ -48,11 +48,13 @@ pub trait Port: Drop {
     /// Waits for a datagram, at most so many milliseconds.
     fn take(&mut self, into: &mut [u8; 512], wait_ms: u32) -> Result<PortPolled, PortFault>
         ensures taken { TakesSo result into.new wait_ms (story self.old) (story self.new) }
-        ensures counts { faults self.new ≡ after_call result (faults self.old) };
+        ensures counts { faults self.new ≡ after_call result (faults self.old) }
+        ensures sound { OnOk result (faults self.old ≡ 0) };
 
     /// Gives a datagram to a client.
     fn give(&mut self, to: u32, octets: &[u8]) -> Result<(), PortFault>
         ensures given { OnOk result (Adds (Gave to octets.now) (story self.old) (story self.new)) }
         ensures failed { OnErr result (GivesOrNot to octets.now (story self.old) (story self.new)) }
-        ensures counts { faults self.new ≡ after_call result (faults self.old) };
+        ensures counts { faults self.new ≡ after_call result (faults self.old) }
+        ensures sound { OnOk result (faults self.old ≡ 0) };
 }

@@ -1,8 +1,8 @@
 use Rattle.std.proofs.Common.{sym, subst}
-use Rattle.address_sim.specs.Driven.{FailsAtEnd}
+use Rattle.address_sim.specs.Driven.{FailsForCause}
 use Rattle.address_sim.specs.Turns.{seen}
 use Rattle.address_sim.proofs.Sound.{sound_polled}
 use Rattle.address_sim.proofs.bus.AddressBus.poll_run.Goals as goal
 
 pub invariant_of-self-2 : goal.invariant_of-self-2
-invariant_of-self-2 c = sound_polled c.poll-polled.result c.args.wait_ms c.self.inside.faults.failed (seen c.in_ok-run.run') (seen c.poll-polled.new.self) c.poll-polled.ensures.ended c.poll-polled.ensures.err (subst (FailsAtEnd c.self.inside.faults.failed) (sym c.in_ok-run.ensures.run) c.self.invariant)
+invariant_of-self-2 c = sound_polled c.poll-polled.result c.args.wait_ms c.self.inside.faults (seen c.in_ok-run.run') (seen c.poll-polled.new.self) c.poll-polled.ensures.ended c.poll-polled.ensures.err (subst (FailsForCause c.self.inside.faults) (sym c.in_ok-run.ensures.run) c.self.invariant)

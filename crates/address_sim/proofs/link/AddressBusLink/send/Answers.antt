@@ -1,10 +1,10 @@
-use Rattle.std.proofs.Common.{ap, refl, ◌∙◌}
+use Rattle.std.proofs.Common.{ap, inr, refl, ◌∙◌}
 use Rattle.line_model.specs.LinkStory.{Sends}
 use Rattle.line_model.specs.Record.{Put}
 use Rattle.line_model.specs.World as world
 use Rattle.address_world.specs.AddressWorld.{Send}
 use Rattle.address_sim.specs.Told.{happened, story, time, world}
-use Rattle.address_sim.proofs.Links.{RunsLater, added_later, either_later, either_still, err_stays, ok_adds}
+use Rattle.address_sim.proofs.Links.{RunsLater, added_later, either_later, either_still, err_stays, ok_adds, stayed_later}
 use Rattle.address_sim.proofs.Seen.{timeless}
 use Rattle.address_sim.proofs.link.AddressBusLink.send.Goals as goal
 
@@ -24,3 +24,12 @@ returns-clause-time c = ap time c.answer.ensures.run ∙ either_still c.send_to_
 
 pub returns-clause-events : goal.returns-clause-events
 returns-clause-events c = (later c).entries
+
+pub returns-then-not-is_sound-clause-failed : goal.returns-then-not-is_sound-clause-failed
+returns-then-not-is_sound-clause-failed c = inr (ap story c.refuse.ensures.run)
+
+pub returns-then-not-is_sound-clause-time : goal.returns-then-not-is_sound-clause-time
+returns-then-not-is_sound-clause-time c = ap time c.refuse.ensures.run
+
+pub returns-then-not-is_sound-clause-events : goal.returns-then-not-is_sound-clause-events
+returns-then-not-is_sound-clause-events c = (stayed_later c.args.self.now.run c.refuse.new.self.run c.refuse.ensures.run).entries

@@ -1,13 +1,13 @@
 use Rattle.std.proofs.Common.{refl, sym, subst}
 use Rattle.line_model.specs.World.{Send}
-use Rattle.bus_sim.specs.Ended.{FailsAtEnd}
+use Rattle.bus_sim.specs.Ended.{FailsForCause}
 use Rattle.bus_sim.specs.RunNow.{seen}
 use Rattle.bus_sim.proofs.Sound.{sound_after}
 use Rattle.bus_sim.proofs.bus.SimBus.send_to_run.Goals as goal
 
 pub invariant_of-self : goal.invariant_of-self
-invariant_of-self c = subst (FailsAtEnd c.self.inside.faults.failed) (sym c.in_err-run.ensures.err) c.self.invariant
+invariant_of-self c = subst (FailsForCause c.self.inside.faults) (sym c.in_err-run.ensures.err) c.self.invariant
 
 pub invariant_of-self-2 : goal.invariant_of-self-2
-invariant_of-self-2 c = sound_after c.send-sent.result c.self.inside.faults.failed (seen c.in_ok-run.run') (seen c.send-sent.new.self) (Send c.args.octets.now) refl c.send-sent.ensures.went c.send-sent.ensures.err
-    (subst (FailsAtEnd c.self.inside.faults.failed) (sym c.in_ok-run.ensures.run) c.self.invariant)
+invariant_of-self-2 c = sound_after c.send-sent.result c.self.inside.faults (seen c.in_ok-run.run') (seen c.send-sent.new.self) (Send c.args.octets.now) refl c.send-sent.ensures.went c.send-sent.ensures.err
+    (subst (FailsForCause c.self.inside.faults) (sym c.in_ok-run.ensures.run) c.self.invariant)

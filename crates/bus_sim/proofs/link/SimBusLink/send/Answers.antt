@@ -16,3 +16,9 @@ returns-in-Err-clause-failed c = inr (ap story (c.fault_of.ensures.run ∙ c.in-
 
 pub returns-in-Err-clause-time : goal.returns-in-Err-clause-time
 returns-in-Err-clause-time c = stayed_still c.args.self.now.run c.fault_of.new.self.run (c.fault_of.ensures.run ∙ c.in-Err.ensures.err)
+
+pub returns-then-not-is_sound-clause-failed : goal.returns-then-not-is_sound-clause-failed
+returns-then-not-is_sound-clause-failed c = inr (ap story c.refuse.ensures.run)
+
+pub returns-then-not-is_sound-clause-time : goal.returns-then-not-is_sound-clause-time
+returns-then-not-is_sound-clause-time c = stayed_still c.args.self.now.run c.refuse.new.self.run c.refuse.ensures.run
