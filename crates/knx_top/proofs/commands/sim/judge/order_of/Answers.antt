@@ -4,14 +4,14 @@ use Rattle.knx_top.proofs.commands.sim.judge.order_of.Goals as goal
 
 pub returns-clause-prepared : goal.returns-clause-prepared
 returns-clause-prepared g c =
-    let planned = rw c.as_slice-2.ensures at c.in_ok-plans.ensures in
+    let planned = rw c.as_slice.ensures at c.in_ok-plans_and_devices.ensures.plans in
     record {
       jobs = c.in_ok-jobs.ensures.are;
-      few = plans_few c.args.new.now c.in_ok-plans.plans c.in_ok-jobs.jobs planned (c.in_ok-jobs.ensures.few c.requires);
+      few = plans_few c.args.new.now _ c.in_ok-jobs.jobs planned (c.in_ok-jobs.ensures.few c.requires);
       plans = planned;
       good = all_good c.args.new.now _ c.in_ok-jobs.jobs planned;
       turns = c.in_ok-turns.ensures.are;
       few_turns = c.in_ok-turns.ensures.few;
       sendable = c.in_ok-turns.ensures.sendable;
-      devices = rw (c.as_slice-3.ensures, c.in_ok-bus.ensures) at c.in_ok-devices.ensures;
+      devices = c.in_ok-plans_and_devices.ensures.devices;
     }
