@@ -1,6 +1,6 @@
 -- Which entries that a call adds come promptly and without a loss of time: those of a call that polls nothing, of a new endpoint before the channel is asked to
--- end, of the end of the channel once all is over, and of a poll that may last only where all was sent that can be. And that a poll that begins where there is no
--- cause to end is made while there is none.
+-- end, of the end of the channel once all is over, and of a poll that may last only where all was sent that can be. And that a poll that begins where there is
+-- no cause to end is made while there is none.
 use Rattle.std.proofs.Common.{◌≡◌, ◌≢◌, ◌⊎◌, inl, inr, ℕ, ◌+◌, ◌<◌, ◌≤◌, Bool, true, false, min, List, [], ◌∷◌, ◌++◌, None, refl, sym, ap, subst, ◌∙◌, arith}
 use Rattle.std.specs.Prelude.{◌&&◌, nat_lt}
 use Rattle.std.specs.List.{AllByRecursion}

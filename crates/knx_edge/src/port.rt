@@ -17,8 +17,8 @@ use std::random::RandomSource;
 use std::time::{Clock, Instant};
 
 /// A port: a socket, and the clients from which datagrams came. A datagram doesn't begin a wait anew: one that goes on since then ends when its
-/// time is over, be there datagrams or not, so that quiet ends come however many datagrams do. Behind a call that failed each fails, and nothing more is done at the
-/// socket.
+/// time is over, be there datagrams or not, so that quiet ends come however many datagrams do. Behind a call that failed each fails, and nothing more is
+/// done at the socket.
 #[derive(Drop)]
 pub struct UdpPort<'a, R, S> {
     rt: &'a R,

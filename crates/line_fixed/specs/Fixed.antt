@@ -54,8 +54,8 @@ Answers (link_answer.Got n) into (Some octets) = (n ≡ min longest_got (length 
 Answers link_answer.Quiet into None = Unit {0}
 Answers polled into next = ⊥
 
--- a call fails behind one that failed or found no memory, where it is listed, or where the record has no room for its entry: its place or its time would pass the
--- greatest number
+-- a call fails behind one that failed or found no memory, where it is listed, or where the record has no room for its entry: its place or its time would pass
+-- the greatest number
 abbrev pub Fails : FaultCounts → List ℕ → ℕ → List Entry → ℕ → Type 0
 Fails faults listed call entries time = (faults ≢ none_failed) ⊎ (Contains listed call ⊎ ((length entries ≡ greatest_count) ⊎ (greatest_count < time)))
 

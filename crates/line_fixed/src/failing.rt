@@ -8,8 +8,8 @@ ghost use Rattle.line_model.specs.declared.outside.link.LinkFault.TheVariants.{F
 
 use line_model::{FaultCounts, Link, LinkFault, Polled};
 
-/// A link that passes every call on to another until one fails: that with the number `fails_at`, from 1, fails, and each behind one that failed or found no memory,
-/// and none of these is passed on. It tells what the other tells.
+/// A link that passes every call on to another until one fails: that with the number `fails_at`, from 1, fails, and each behind one that failed or found
+/// no memory, and none of these is passed on. It tells what the other tells.
 #[derive(Drop)]
 pub struct FailingLink<L: Link> {
     pub link: L,
