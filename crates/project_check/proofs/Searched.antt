@@ -1,11 +1,11 @@
 -- A link is found among the links of a text just where a line says it.
 use Rattle.std.proofs.Common.{◌≡◌, ℕ, ◌<◌, ◌≤◌, true, false, List, [], Ordering, Less, Equal, Greater, Result, Ok, Err, length, get_or, refl, sym, ap, ◌∙◌, subst, inl, inr, arith}
-use Rattle.std.specs.Prelude.{Contains, slice_index_or}
+use Rattle.std.specs.Prelude.{Contains}
 use Rattle.std.specs.Result.{is_ok}
 use Rattle.std.specs.List.{HoldsAt}
 use Rattle.std.specs.List.Sorted.{IsBinarySearchResult, IsSearchInRange}
 use Rattle.std.specs.Ordering.{is_lt, nat_cmp, ordering_then}
-use Rattle.std.proofs.lemmas.Bool.{cases_Bool, cases_lt, false≢true}
+use Rattle.std.proofs.lemmas.Bool.{cases_Bool, cases_lt}
 use Rattle.std.proofs.lemmas.Bool.Decides.{nat_tests}
 use Rattle.std.proofs.lemmas.List.{get_or_default}
 use Rattle.std.proofs.lemmas.List.Elements.{Contains-get_or}
@@ -14,7 +14,7 @@ use Rattle.std.proofs.lemmas.List.Sorted.{searchable_from_sorted, Contains-permu
 use Rattle.knx_model.specs.declared.project.Statement.{Statement}
 use Rattle.knx_model.specs.declared.project.What.TheVariants.{Title}
 use Rattle.knx_model.specs.Rules.{some_line, links_to}
-use Rattle.project_check.specs.Links.{link_cmp, line_cmp, link_lines, AreAscending}
+use Rattle.project_check.specs.Links.{link_cmp, link_lines, AreAscending}
 use Rattle.project_check.specs.declared.links.Link.{Link}
 use Rattle.project_check.specs.declared.links.LinkLine.{LinkLine}
 use Rattle.project_check.proofs.Ordered.{links_total, same_link}
