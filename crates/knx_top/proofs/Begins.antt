@@ -35,7 +35,7 @@ starts : (old : Installation) (device : IndAddr) (image : Option Image) → IsIm
 starts old device None h = BeginsBlank h refl
 starts old device (Some image) h = BeginsLoaded h.0 image h.1.stands refl
 
-begins_listed : (old : Installation) (script : Script) (d : IndAddr × Option Image) (a : IndAddr) → IsCompiled old d a → BeginsAs old script d.0.raw (begins script d.0 d.1)
+begins_listed : (old : Installation) (script : Script) (d : IndAddr × Option Image) (a : IndAddr) → IsCompiled old d a → BeginsAs old script d.0.raw None (begins script d.0 d.1)
 begins_listed old script d a is = record {
   loaded = loaded_or_blank d.0 d.1;
   start = starts old d.0 d.1 (subst (λ (device : IndAddr). IsImageWhere old device d.1) (sym is.device) is.image);
@@ -49,17 +49,17 @@ turned : (x y : ℕ) → (y == x) ≡ (x == y)
 turned x y = grind (arith, nat_tests)
 
 at_head : (b : Bool) (old : Installation) (script : Script) (d : IndAddr × Option Image) (ds : List (IndAddr × Option Image)) (a : IndAddr) (listed : List IndAddr) (address : ℕ) → (address == d.0.raw) ≡ b → IsCompiled old d a
-    → DeviceBegins old script address (list_any (λ (x : IndAddr). x.raw == address) listed) (device_begun script ds address)
-    → DeviceBegins old script address (list_any (λ (x : IndAddr). x.raw == address) (a ∷ listed)) (device_begun script (d ∷ ds) address)
+    → DeviceBegins old script address None (list_any (λ (x : IndAddr). x.raw == address) listed) (device_begun script ds address)
+    → DeviceBegins old script address None (list_any (λ (x : IndAddr). x.raw == address) (a ∷ listed)) (device_begun script (d ∷ ds) address)
 at_head true old script d ds a listed address e is rest =
     let same : (a.raw == address) ≡ true = turned address a.raw ∙ ap (λ (x : IndAddr). address == x.raw) (sym is.device) ∙ e in
-    rw (e, same) (subst (λ (n : ℕ). BeginsAs old script n (begins script d.0 d.1)) (sym (same_number address d.0.raw e)) (begins_listed old script d a is))
+    rw (e, same) (subst (λ (n : ℕ). BeginsAs old script n None (begins script d.0 d.1)) (sym (same_number address d.0.raw e)) (begins_listed old script d a is))
 at_head false old script d ds a listed address e is rest =
     let other : (a.raw == address) ≡ false = turned address a.raw ∙ ap (λ (x : IndAddr). address == x.raw) (sym is.device) ∙ e in
     rw (e, other) rest
 
 begun_at : (old : Installation) (script : Script) (devices : List (IndAddr × Option Image)) (listed : List IndAddr) (address : ℕ) → AreCompiled old devices listed
-    → DeviceBegins old script address (list_any (λ (x : IndAddr). x.raw == address) listed) (device_begun script devices address)
+    → DeviceBegins old script address None (list_any (λ (x : IndAddr). x.raw == address) listed) (device_begun script devices address)
 begun_at old script [] [] address h = refl
 begun_at old script [] (a ∷ listed) address h = absurd h
 begun_at old script (d ∷ ds) [] address h = absurd h
@@ -107,7 +107,7 @@ begins_line new old lines tunnel devices r e at are known = subst (BeginsLine ne
   begins = record {
     tunnel = rw at refl;
     echo = refl;
-    devices = λ device. subst (λ (b : Bool). DeviceBegins old (script_of lines) device b (device_begun (script_of lines) devices device)) (any_on_bus new old device) (begun_at old (script_of lines) devices (on_bus new old) device are);
+    devices = λ device. subst (λ (b : Bool). DeviceBegins old (script_of lines) device None b (device_begun (script_of lines) devices device)) (any_on_bus new old device) (begun_at old (script_of lines) devices (on_bus new old) device are);
   };
   says = refl;
   one = refl;

@@ -28,7 +28,7 @@ use Rattle.line_model.specs.Lines.{Script, script_of}
 use Rattle.line_model.specs.LinkStory.{Full, Story}
 use Rattle.line_model.specs.Log.{Job}
 use Rattle.line_model.specs.Polled.{after_fault, none_failed, one_failed}
-use Rattle.line_model.specs.StartOf.{BusOf}
+use Rattle.line_model.specs.StartOf.{BusOf, nothing_kept}
 use Rattle.line_model.specs.Tunnel.{Commissions}
 use Rattle.line_model.specs.World.{World, Event}
 use Rattle.tunnel_link.specs.Goes.{GoesOn}
@@ -113,7 +113,7 @@ module _ (report : Report) (begun line : BusNow) (none : begun.faults ≡ none_f
 is_run : (c : Commission) (order : Order) (r : RunNow) → IsOrder c order → start r ≡ start order.line.run → script r ≡ script order.line.run
     → IsFresh (start r) → IsLegal Commissions (start r) r.events → Follows (script r) Commissions (start r) r.events → IsRunOf c r
 is_run c order r is begun says fresh legal follows = record {
-  begins = subst (λ (w : World). BusOf c.project c.before (script_of c.script) w) (sym begun) is.line.begins;
+  begins = subst (λ (w : World). BusOf c.project c.before (script_of c.script) nothing_kept w) (sym begun) is.line.begins;
   fresh = fresh;
   legal = legal;
   follows = subst (λ (s : Script). Follows s Commissions (start r) r.events) (says ∙ is.line.says) follows;
@@ -124,7 +124,7 @@ keeps_promises c order r log is run right =
     let jobs : List Job = map seen_job order.plans in
     record {
       devices = devices_mean c.project jobs order.jobs (start r) r.events log is.prepared.plans right.devices;
-      telegrams = telegrams_by_project c.project c.before (script_of c.script) jobs order.jobs (start r) r.events log run.begins is.line.in_range is.prepared.plans right.devices right.telegrams;
+      telegrams = telegrams_by_project c.project c.before (script_of c.script) nothing_kept jobs order.jobs (start r) r.events log run.begins is.line.in_range is.prepared.plans right.devices right.telegrams;
       done = done_means c.project jobs order.jobs (start r) r.events log is.prepared.plans right.done;
       once = right.once;
     }

@@ -9,7 +9,7 @@ use Rattle.knx_model.specs.declared.config.Image.{Image}
 use Rattle.knx_model.specs.DeviceState.{DeviceState}
 use Rattle.knx_model.specs.Meaning.{Installation}
 use Rattle.line_model.specs.Lines.{Script, script_of}
-use Rattle.line_model.specs.StartOf.{BusOf, DeviceBegins, is_on_bus, line_of, tunnel_address}
+use Rattle.line_model.specs.StartOf.{BusOf, DeviceBegins, is_on_bus, line_of, nothing_kept, tunnel_address}
 use Rattle.line_model.specs.World.{World, Event, replay}
 use Rattle.knx_top.specs.Begun.{BeginsLine, IsOrder}
 use Rattle.call_parts.specs.OnLine.{AreCompiled, addresses_of_line, on_bus}
@@ -28,12 +28,12 @@ all_on_bus : (new old : Installation) → AllByRecursion (λ a. is_on_bus new ol
 unfolding on_bus
 all_on_bus new old = each_passes (λ (d : IndAddr). is_on_bus new old d.raw) (addresses_of_line (line_of (tunnel_address new).raw))
 
-some_begins : (old : Installation) (script : Script) (device : ℕ) (b : Bool) (d : Option DeviceState) → b ≡ true → DeviceBegins old script device b d → IsSome d
+some_begins : (old : Installation) (script : Script) (device : ℕ) (b : Bool) (d : Option DeviceState) → b ≡ true → DeviceBegins old script device None b d → IsSome d
 some_begins old script device true (Some d) e h = refl
 some_begins old script device true None e h = absurd h
 some_begins old script device false d e h = absurd cc
 
-each_there : (project new old : Installation) (script : Script) (w : World) (devices : List (IndAddr × Option Image)) (listed : List IndAddr) → BusOf new old script w → AreCompiled project devices listed → AllByRecursion (λ a. is_on_bus new old a.raw ≡ true) listed
+each_there : (project new old : Installation) (script : Script) (w : World) (devices : List (IndAddr × Option Image)) (listed : List IndAddr) → BusOf new old script nothing_kept w → AreCompiled project devices listed → AllByRecursion (λ a. is_on_bus new old a.raw ≡ true) listed
     → AllByRecursion (λ d. IsSome (w.devices d.0.raw)) devices
 each_there project new old script w [] [] bus are all = tt
 each_there project new old script w [] (a ∷ listed) bus are all = absurd are

@@ -22,7 +22,7 @@ use Rattle.line_model.specs.Fresh.{IsFresh}
 use Rattle.line_model.specs.Legal.{IsLegal}
 use Rattle.line_model.specs.Lines.{Script, script_of}
 use Rattle.line_model.specs.PortStory.{PortItem, PortStory, IsNewPort}
-use Rattle.line_model.specs.StartOf.{BusOf, tunnel_address}
+use Rattle.line_model.specs.StartOf.{BusOf, nothing_kept, tunnel_address}
 use Rattle.line_model.specs.Tunnel.{Mode, Serves as AtPort}
 use Rattle.line_model.specs.World.{World, Event}
 use Rattle.knx_top.specs.Begun.{BeginsLine}
@@ -127,7 +127,7 @@ follows_at_port says r (inr nothing) follows = none_follow says AtPort (start r)
 is_served : (s : Service) (began r : RunNow) → BeginsLine s.before s.before s.script began → start r ≡ start began → script r ≡ script began → IsFresh (start r) → IsLegal (mode r) (start r) r.events → Follows (script r) (mode r) (start r) r.events
     → IsAtPort r → IsServed s r
 is_served s began r begins same says fresh legal follows at = record {
-  begins = subst (λ (w : World). BusOf s.before s.before (script_of s.script) w) (sym same) begins.begins;
+  begins = subst (λ (w : World). BusOf s.before s.before (script_of s.script) nothing_kept w) (sym same) begins.begins;
   fresh = fresh;
   legal = legal_at_port r at legal;
   follows = follows_at_port (script_of s.script) r at (subst (λ (these : Script). Follows these (mode r) (start r) r.events) (says ∙ begins.says) follows);

@@ -49,7 +49,7 @@ use Rattle.line_model.specs.LinkStory.{Full}
 use Rattle.line_model.specs.Log.{Job, Over, TurnUnfinished, has_entry, is_turn, job_of, state_of, turn_of}
 use Rattle.line_model.specs.OldStoppedOrNew.{DoneSo, IsUntouched, MeansWhereDone, RunsWhereDone, StaysDone, world_at}
 use Rattle.line_model.specs.Record.{Entry, Placed, placed, record_of}
-use Rattle.line_model.specs.StartOf.{BeginsAs, BusOf, DeviceBegins, is_on_bus}
+use Rattle.line_model.specs.StartOf.{BeginsAs, BusOf, DeviceBegins, is_on_bus, nothing_kept}
 use Rattle.line_model.specs.Tunnel.{Commissions, Tunnel}
 use Rattle.line_model.specs.Undisturbed as line
 use Rattle.line_model.specs.Undisturbed.{FailsNot, HasDevices, IsPrompt, IsServedJob, NothingFailed, RefusesRightly}
@@ -74,24 +74,24 @@ short_start old device d (BeginsBlank has is) = subst (λ (x : DeviceState). All
 some_none : (d : DeviceState) → Some d ≡ None → ⊥
 some_none d e = cc
 
-module _ (new old : Installation) (script : Script) (w : World) (begins : BusOf new old script w) (says : line.IsUndisturbed script) where
-  begun : (a : ℕ) (d : DeviceState) → w.devices a ≡ Some d → BeginsAs old script a d
-  begun a d is = by_bus (is_on_bus new old a) (subst (DeviceBegins old script a (is_on_bus new old a)) is (begins.devices a))
+module _ (new old : Installation) (script : Script) (w : World) (begins : BusOf new old script nothing_kept w) (says : line.IsUndisturbed script) where
+  begun : (a : ℕ) (d : DeviceState) → w.devices a ≡ Some d → BeginsAs old script a None d
+  begun a d is = by_bus (is_on_bus new old a) (subst (DeviceBegins old script a None (is_on_bus new old a)) is (begins.devices a))
     where
-      by_bus : (on : Bool) → DeviceBegins old script a on (Some d) → BeginsAs old script a d
+      by_bus : (on : Bool) → DeviceBegins old script a None on (Some d) → BeginsAs old script a None d
       by_bus true b = b
       by_bus false b = absurd (some_none d b)
 
-  has_power : (a : ℕ) (d : DeviceState) → BeginsAs old script a d → d.power ≡ true
+  has_power : (a : ℕ) (d : DeviceState) → BeginsAs old script a None d → d.power ≡ true
   has_power a d b = ap (λ (x : DeviceState). x.power) b.is ∙ ap not (said_not (Off (record { raw = a })) refl script says)
 
   have_power : HavePower w
   have_power a d is = has_power a d (begun a d is)
 
   there : (a : ℕ) → is_on_bus new old a ≡ true → OfDevice (λ d. d.power ≡ true) (w.devices a)
-  there a on = by_device (w.devices a) (subst (λ (b : Bool). DeviceBegins old script a b (w.devices a)) on (begins.devices a))
+  there a on = by_device (w.devices a) (subst (λ (b : Bool). DeviceBegins old script a None b (w.devices a)) on (begins.devices a))
     where
-      by_device : (o : Option DeviceState) → DeviceBegins old script a true o → OfDevice (λ d. d.power ≡ true) o
+      by_device : (o : Option DeviceState) → DeviceBegins old script a None true o → OfDevice (λ d. d.power ≡ true) o
       by_device (Some d) b = has_power a d b
       by_device None b = absurd b
 

@@ -14,7 +14,7 @@ use Rattle.hub_work.specs.Requests.{IsTurnInRange}
 use Rattle.line_model.specs.Lines.{script_of}
 use Rattle.line_model.specs.Headline.{IsGoodJob}
 use Rattle.line_model.specs.Polled.{none_failed}
-use Rattle.line_model.specs.StartOf.{BusOf, is_on_bus}
+use Rattle.line_model.specs.StartOf.{BusOf, is_on_bus, nothing_kept}
 use Rattle.call_parts.specs.Jobs.{AreJobs, ArePlanned, seen_job}
 use Rattle.call_parts.specs.OnLine.{AreCompiled, on_bus}
 use Rattle.call_parts.specs.Options.{workers_of}
@@ -29,7 +29,7 @@ IsOldInRange new old = (device : ℕ) → is_on_bus new old device ≡ true → 
 
 -- a line as a run of these projects and this script begins, of one client, to which nothing was done
 pub record BeginsLine (new old : Installation) (lines : List ScriptLine) (r : RunNow) : Type 0 where
-  pub begins : BusOf new old (script_of lines) (start r)
+  pub begins : BusOf new old (script_of lines) nothing_kept (start r)
   pub says : script r ≡ script_of lines
   pub one : r.begun.clients ≡ One
   pub nothing : r.events ≡ []

@@ -9,7 +9,7 @@ use Rattle.line_model.specs.Log.{AllOver, IsLog, Job, OneDownloaderPerDevice, Ta
 use Rattle.call_parts.specs.Jobs.{AreJobs, ArePlanned}
 use Rattle.call_parts.specs.Turns.{most_turns, turns_of}
 use Rattle.bus_sim.specs.Loaded.{BusNow}
-use Rattle.line_model.specs.StartOf.{BusOf}
+use Rattle.line_model.specs.StartOf.{BusOf, nothing_kept}
 use Rattle.line_model.specs.Tunnel.{Commissions}
 use Rattle.line_model.specs.Follows.{Follows}
 use Rattle.line_model.specs.declared.group.GroupTurn.{GroupTurn}
@@ -61,7 +61,7 @@ commission_of project before script options = record { project = project; before
 -- ---- the premises: the line began as it is stated, and what happened is what may happen and what the script says
 
 pub record IsRunOf (c : Commission) (r : RunNow) : Type 0 where
-  pub begins : BusOf c.project c.before (script_of c.script) (start r)
+  pub begins : BusOf c.project c.before (script_of c.script) nothing_kept (start r)
   pub fresh : IsFresh (start r)
   pub legal : IsLegal Commissions (start r) r.events
   pub follows : Follows (script_of c.script) Commissions (start r) r.events
@@ -72,7 +72,7 @@ pub record KeepsPromises (c : Commission) (jobs : List Job) (r : RunNow) (log : 
   -- whatever is lost, repeated or cut, at every moment each device keeps its starting content, or is stopped, or runs what the new project says
   pub devices : OldStoppedOrNew (RunsMeaning c.project) jobs (start r) r.events log
   -- each group telegram acts on exactly the objects that the running configuration links
-  pub telegrams : TelegramsActRight (ActsByProject c.before c.project) (start r) r.events
+  pub telegrams : TelegramsActRight (ActsByProject nothing_kept c.before c.project) (start r) r.events
   -- done is told only where what the new project says runs
   pub done : MeansWhereDone c.project jobs (start r) r.events log
   -- no tunnelling request acts twice

@@ -10,7 +10,7 @@ use Rattle.knx_model.specs.declared.script.GroupService.{GroupService}
 use Rattle.knx_model.specs.declared.script.GroupService.TheVariants.{Read, Write, Response}
 use Rattle.knx_model.specs.Acts.{is_written, answerer, acts_written, acts_answerer}
 use Rattle.knx_model.specs.ApduReading.{service_in}
-use Rattle.knx_model.specs.Device.{runs}
+use Rattle.knx_model.specs.Device.{NonVolatile, runs}
 use Rattle.knx_model.specs.DeviceState.{DeviceState, value_of}
 use Rattle.knx_model.specs.DeviceFrames.{group_service, own_frame, response_octets}
 use Rattle.knx_model.specs.Meaning.{Installation, meaning}
@@ -69,17 +69,29 @@ ActsByImage group service None old new = ActsOnNothing old new
 ActsByImage group None (Some image) old new = ActsOnNothing old new
 ActsByImage group (Some service) (Some image) old new = ActsRight (is_written image group service) (answerer image group service) group service old new
 
--- ---- by a configuration that the image stands for: the meaning of the device's old or its new project
+-- ---- by a configuration that the image stands for: what a project says of the device
 
 pub record ActsByConfig (config : Config) (image : Image) (group : ℕ) (service : GroupService) (old new : DeviceState) : Type 0 where
   pub stands : StandsFor image config
   pub acts : ActsRight (acts_written config group service) (acts_answerer config group service) group service old new
 
-abbrev pub ActsByProject : Installation → Installation → ℕ → Option GroupService → Option Image → DeviceState → DeviceState → Type 0
-ActsByProject before after group service None old new = ActsOnNothing old new
-ActsByProject before after group None (Some image) old new = ActsOnNothing old new
-ActsByProject before after group (Some service) (Some image) old new =
-    ActsByConfig (meaning before old.address) image group service old new ⊎ ActsByConfig (meaning after old.address) image group service old new
+-- ---- by what it began with: the octets that it kept, while it keeps them, where these are told, and else what its old project says
+
+pub record ActsByKept (kept : NonVolatile) (image : Image) (group : ℕ) (service : GroupService) (old new : DeviceState) : Type 0 where
+  pub keeps : old.kept ≡ kept
+  pub acts : ActsRight (is_written image group service) (answerer image group service) group service old new
+
+abbrev pub ActsAsBegun : Installation → Option NonVolatile → Image → ℕ → GroupService → DeviceState → DeviceState → Type 0
+ActsAsBegun before None image group service old new = ActsByConfig (meaning before old.address) image group service old new
+ActsAsBegun before (Some kept) image group service old new = ActsByKept kept image group service old new
+
+-- ---- by what it began with, or by what its new project says; had tells of its address what it kept at the beginning
+
+abbrev pub ActsByProject : (ℕ → Option NonVolatile) → Installation → Installation → ℕ → Option GroupService → Option Image → DeviceState → DeviceState → Type 0
+ActsByProject had before after group service None old new = ActsOnNothing old new
+ActsByProject had before after group None (Some image) old new = ActsOnNothing old new
+ActsByProject had before after group (Some service) (Some image) old new =
+    ActsAsBegun before (had old.address.raw) image group service old new ⊎ ActsByConfig (meaning after old.address) image group service old new
 
 -- ---- whenever a device with power gets a group telegram
 

@@ -1,11 +1,16 @@
 //! Laws of the definitions, each a function without a body whose contract is the law.
 
-ghost use Rattle.std.specs.Prelude.{◌≡◌, ◌≢◌, ℕ, ◌+◌, ◌<◌, ◌≤◌, ◌++◌, [], ◌∷◌, List, Some, None, length, slice_get, ◌↔◌, true, false, not};
+ghost use Rattle.std.specs.Prelude.{◌≡◌, ◌≢◌, ◌⊎◌, ℕ, ◌+◌, ◌<◌, ◌≤◌, ◌++◌, [], ◌∷◌, List, Option, Some, None, length, slice_get, ◌↔◌, true, false, not};
 ghost use Rattle.knx_model.specs.Cemi.{Reads as ReadsLdata};
 ghost use Rattle.knx_model.specs.DeviceConnection.{Closed};
-ghost use Rattle.knx_model.specs.DeviceState.{DeviceState, zero_values};
+ghost use Rattle.knx_model.specs.Device.{NonVolatile};
+ghost use Rattle.knx_model.specs.DeviceState.{DeviceState, framed, zero_values};
 ghost use Rattle.knx_model.specs.KnxNetIp.{Reads as ReadsDatagram};
-ghost use Rattle.knx_model.specs.Meaning.{Installation};
+ghost use Rattle.knx_model.specs.Meaning.{Installation, meaning};
+ghost use Rattle.knx_model.specs.Promises.{StartOf};
+ghost use Rattle.knx_model.specs.declared.config.Image.{Image};
+ghost use Rattle.knx_model.specs.declared.device.FrameSupport.TheVariants.{Extended};
+ghost use Rattle.knx_model.specs.declared.script.GroupService.{GroupService};
 ghost use Rattle.knx_model.specs.declared.frames.cemi.Ldata.{Ldata};
 ghost use Rattle.knx_model.specs.declared.frames.ip.IpFrame.{IpFrame};
 ghost use Rattle.knx_model.specs.declared.frames.ip.IpFrame.TheVariants.{ConnectResponse, DisconnectRequest, DisconnectResponse, TunnellingAck};
@@ -19,7 +24,8 @@ ghost use Rattle.line_model.specs.Network.{Sent, MayArrive, new_datagram};
 ghost use Rattle.line_model.specs.Reading.{RequestFrame, AckFrame, datagram_in, ldata_in};
 ghost use Rattle.line_model.specs.Record.{Entry, is_poll, record_of, tunnel_record};
 ghost use Rattle.line_model.specs.Renews.{calls_for};
-ghost use Rattle.line_model.specs.StartOf.{BeginsAs, frames_for};
+ghost use Rattle.line_model.specs.StartOf.{BeginsAs, frames_for, nothing_kept, powered};
+ghost use Rattle.line_model.specs.Telegrams.{ActsByConfig, ActsByProject};
 ghost use Rattle.line_model.specs.Tunnel.{Mode, IsLegal as IsLegalInTunnel, replay as tunnel_replay};
 ghost use Rattle.line_model.specs.World.{World, Event, AtGateway, Cut, DevClose, DevSend, On, takes_it, is_among, confirmation, step, replay, tunnel_events};
 
@@ -90,10 +96,19 @@ pub fn what_comes_to_no_device_changes_none()
 {}
 
 /// A device of the simulated line begins with power but where the script switches it off, and takes extended frames but where the script says that
-/// it is a standard one.
+/// it is a standard one. Where it is told what it kept, it keeps just that; else it is loaded or blank, as its old project says.
 pub fn devices_begin_as_the_script_says()
-    ensures power { (old : Installation) (script : Script) (device : ℕ) (d : DeviceState) → BeginsAs old script device d → d.power ≡ not (is_off script device) }
-    ensures frames { (old : Installation) (script : Script) (device : ℕ) (d : DeviceState) → BeginsAs old script device d → d.frames ≡ frames_for (is_standard script device) }
+    ensures power { (old : Installation) (script : Script) (device : ℕ) (had : Option NonVolatile) (d : DeviceState) → BeginsAs old script device had d → d.power ≡ not (is_off script device) }
+    ensures frames { (old : Installation) (script : Script) (device : ℕ) (had : Option NonVolatile) (d : DeviceState) → BeginsAs old script device had d → d.frames ≡ frames_for (is_standard script device) }
+    ensures kept { (old : Installation) (script : Script) (device : ℕ) (kept : NonVolatile) (d : DeviceState) → BeginsAs old script device (Some kept) d → (d.kept ≡ kept) × (d.address.raw ≡ device) }
+    ensures loaded { (old : Installation) (script : Script) (device : ℕ) (d : DeviceState) → BeginsAs old script device (nothing_kept device) d → StartOf old (record { raw = device }) (framed Extended (powered true d)) }
+{}
+
+/// A device of which it is told what it kept acts by these octets only while it keeps them, and then by its new project alone; one of which nothing is
+/// told acts by its old project or its new one.
+pub fn a_device_acts_as_it_began_or_by_its_new_project()
+    ensures told { (had : ℕ → Option NonVolatile) (before after : Installation) (group : ℕ) (service : GroupService) (image : Image) (kept : NonVolatile) (old new : DeviceState) → had old.address.raw ≡ Some kept → old.kept ≢ kept → ActsByProject had before after group (Some service) (Some image) old new → ActsByConfig (meaning after old.address) image group service old new }
+    ensures untold { (before after : Installation) (group : ℕ) (service : GroupService) (image : Image) (old new : DeviceState) → ActsByProject nothing_kept before after group (Some service) (Some image) old new → ActsByConfig (meaning before old.address) image group service old new ⊎ ActsByConfig (meaning after old.address) image group service old new }
 {}
 
 /// The gateway answers another connect request of its client with the channel that is open, and puts no request while one is outstanding. It closes

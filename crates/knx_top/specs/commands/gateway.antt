@@ -9,7 +9,7 @@ use Rattle.bus_sim.specs.Serving.{BreaksOff, ServedSo}
 use Rattle.bus_sim.specs.Ended.{IsAtEnd}
 use Rattle.bus_sim.specs.Loaded.{BusNow}
 use Rattle.line_model.specs.Polled.{none_failed, one_failed}
-use Rattle.line_model.specs.StartOf.{BusOf, tunnel_address}
+use Rattle.line_model.specs.StartOf.{BusOf, nothing_kept, tunnel_address}
 use Rattle.call_parts.specs.Judged.{ComesTo, models_of, read_of, unless_refused, unless_strange, installed, sound}
 use Rattle.call_parts.specs.declared.ending.End.{End}
 use Rattle.knx_model.specs.Outside.{FileContent, FilesNow, one_more}
@@ -133,7 +133,7 @@ line_story s failed port = shown_story (about_gateway (tunnel_address s.before))
 -- the line began as OLD and the script say, its devices loaded with OLD's images; what happened on it is legal where clients come to a port, and follows the script,
 -- whose lines with `group` call for nothing here
 pub record IsServed (s : Service) (r : RunNow) : Type 0 where
-  pub begins : BusOf s.before s.before (script_of s.script) (start r)
+  pub begins : BusOf s.before s.before (script_of s.script) nothing_kept (start r)
   pub fresh : IsFresh (start r)
   pub legal : IsLegal tunnel.Serves (start r) r.events
   pub follows : Follows (script_of s.script) tunnel.Serves (start r) r.events
