@@ -1,5 +1,5 @@
 -- What an event makes of a device by a frame that comes to it, and what stays of one that nothing reaches.
-use Rattle.std.proofs.Common.{◌≡◌, ◌≢◌, ℕ, List, ◌∷◌, Bool, true, false, not, ◌&&◌, ◌==◌, refl, sym, ap, subst, ◌∙◌, arith, inl, inr, Option, Some, None, if◌then◌else◌}
+use Rattle.std.proofs.Common.{◌≡◌, ◌≢◌, ℕ, List, ◌∷◌, Bool, true, false, not, ◌&&◌, ◌==◌, refl, sym, ap, ◌∙◌, arith, inl, inr, Option, Some, None, if◌then◌else◌}
 use Rattle.std.proofs.lemmas.Bool.{or_left, ne_eqb}
 use Rattle.std.proofs.lemmas.Option.{same_Some}
 use Rattle.knx_model.specs.declared.frames.cemi.Ldata.{Ldata}
@@ -7,7 +7,7 @@ use Rattle.knx_model.specs.ApduReading.{option_map}
 use Rattle.knx_model.specs.DeviceState.{DeviceState, switched_on}
 use Rattle.knx_model.specs.DeviceFrames.{Outcome, Whole, Torn, Worn, takes, taken_again, taken_last}
 use Rattle.knx_model.specs.DeviceSending.{pops, shut}
-use Rattle.line_model.specs.Arrives.{arrives, for_others, is_for, only_for, taken_as, unless_among}
+use Rattle.line_model.specs.Arrives.{arrives, for_others, only_for, taken_as, unless_among}
 use Rattle.line_model.specs.Concerns.{Concerns, IsOwn}
 use Rattle.line_model.specs.Legal.{DevicesAllow, GoesSo}
 use Rattle.line_model.specs.World.{World, Event, Send, From, Renew, Up, UpRefused, Down, LoseUp, LoseDown, Bus, BusTorn, BusWorn, BusAgain, DevSend, DevRepeat, DevClose, GwAgain, GwRepeat, GwClose, Cut, On, Pass, Devices, changed, all_take, one_takes, others_take, frame_by, is_among, next_frame, waiting_at, now, step}
