@@ -72,7 +72,7 @@ pub group_taken : (o : Option DeviceState) (frame : Ldata) → frame.group ≡ t
 group_taken None frame e = refl
 group_taken (Some d) frame e = ap (λ t. not t && is_taken (took_of d frame)) e
 
-group_written : (o : Option DeviceState) (frame : Ldata) → frame.group ≡ true → is_some (write_of o (Some frame)) ≡ false
+pub group_written : (o : Option DeviceState) (frame : Ldata) → frame.group ≡ true → is_some (write_of o (Some frame)) ≡ false
 group_written None frame e = refl
 group_written (Some d) frame e = not_written d frame (ap (λ t. not t && is_taken (took_of d frame)) e)
 

@@ -62,7 +62,10 @@ impl Line {
     {
         let made = self.tunnel.gateway.made;
         let is_over = self.tunnel.up.is_over(Reach::Every, made)
-            & self.tunnel.down.is_over(Reach::To(self.tunnel.present), made);
+            & self
+                .tunnel
+                .down
+                .is_over(Reach::To(self.tunnel.present), made);
         let is_silent = self.frame_due().is_none() & self.has_nothing_to_send();
         is_over & is_silent
     }
