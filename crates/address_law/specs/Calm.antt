@@ -10,6 +10,7 @@ use Rattle.line_model.specs.Tunnel.{Commissions}
 use Rattle.line_model.specs.World.{Comes}
 use Rattle.address_world.specs.AddressWorld.{AddressWorld, AddressEvent, UnitState, Send, Renew, Up, UpRefused, Down, LoseUp, LoseDown, Bus, Respond, GwRepeat, GwClose, Pass, replay}
 
+-- each response is sent
 abbrev pub AllSent : List UnitState → Type 0
 AllSent units = AllByRecursion (λ (u : UnitState). u.unsent ≡ []) units
 

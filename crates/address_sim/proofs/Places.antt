@@ -10,7 +10,8 @@ use Rattle.line_model.specs.World.{AtGateway, is_among}
 use Rattle.address_world.specs.declared.unit.Unit.{Unit as BusUnit}
 use Rattle.address_world.specs.AddressWorld.{AddressEvent, Respond, UnitState, all_get, changed, gets_broadcast, has_address, oldest, oldest_at, response, sends}
 use Rattle.address_sim.specs.declared.units.Answers.{Answers}
-use Rattle.address_sim.specs.Follows.{AllSent, one_more_if, responses}
+use Rattle.address_law.specs.Calm.{AllSent}
+use Rattle.address_sim.specs.Follows.{one_more_if, responses}
 use Rattle.address_sim.specs.Told.{at_rest}
 use Rattle.address_world.specs.Shown.{shown}
 use Rattle.address_sim.specs.Units.{both_of, state_of, IsDueAt, IsNotDueAt, SentSo}

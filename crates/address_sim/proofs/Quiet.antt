@@ -13,7 +13,8 @@ use Rattle.network_sim.proofs.Over.{all_over}
 use Rattle.tunnel_sim.specs.declared.gateway.Due.TheVariants as due
 use Rattle.tunnel_sim.specs.Gateways.{due_of}
 use Rattle.address_world.specs.AddressWorld.{AddressWorld, Down, GwRepeat, GwClose, Pass, step}
-use Rattle.address_sim.specs.Follows.{AllSent, IsStill}
+use Rattle.address_law.specs.Calm.{AllSent}
+use Rattle.address_sim.specs.Follows.{IsStill}
 use Rattle.address_sim.specs.Turns.{IsQuiet, IsCalm}
 
 -- ---- what goes up, and waits for the bus

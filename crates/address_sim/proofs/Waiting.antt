@@ -3,7 +3,7 @@ use Rattle.std.proofs.Common.{◌≡◌, ◌≢◌, ℕ, ◌+◌, ◌-◌, ◌�
 use Rattle.line_model.specs.Deliveries.{next_up}
 use Rattle.line_model.specs.Record.{Quiet}
 use Rattle.address_world.specs.AddressWorld.{AddressWorld, Pass}
-use Rattle.address_sim.specs.Follows.{AllSent}
+use Rattle.address_law.specs.Calm.{AllSent}
 use Rattle.address_sim.specs.Told.{RunNow, world as world_of}
 use Rattle.address_sim.specs.Turns.{RunState, seen, world, now, Stays, Happens, Gets, GoesUnseen, HasRoom, SameRecord, EndedSo, IsCalm, NothingComes, NothingDue}
 use Rattle.address_sim.proofs.Polling.{AddsOne, WaitsSo, ends_got, ends_quiet, from_same, gets_one, no_waits, passes_one, same_stays, unseen_same, waits_more, waits_same}

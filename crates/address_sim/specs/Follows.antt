@@ -2,15 +2,15 @@
 -- order; the gateway repeats and closes exactly when its wait has passed, and refuses nothing; and time passes only where nothing else can happen, never
 -- beyond the next such time.
 use Rattle.std.specs.Prelude.{◌≡◌, ℕ, suc, ◌+◌, ◌<◌, Bool, true, false, ◌==◌, List, [], ◌∷◌, Option, Some, None, if◌then◌else◌}
-use Rattle.std.specs.List.{AllByRecursion}
 use Rattle.knx_model.specs.declared.frames.cemi.Ldata.{Ldata}
 use Rattle.line_model.specs.Deliveries.{next_up, next_down}
 use Rattle.line_model.specs.Follows.{IsGatewayRepeat, IsGatewayClosing, at_gateway, gateway_due}
 use Rattle.line_model.specs.Fresh.{TunnelSettled}
 use Rattle.line_model.specs.Gateway.{gateway_expired, Nothing}
 use Rattle.line_model.specs.Tunnel.{Commissions}
+use Rattle.address_law.specs.Calm.{AllSent}
 use Rattle.address_world.specs.declared.unit.UnitLoss.{UnitLoss}
-use Rattle.address_world.specs.AddressWorld.{AddressWorld, AddressEvent, UnitState, Send, Renew, Up, UpRefused, Down, LoseUp, LoseDown, Bus, Respond, GwRepeat, GwClose, Pass, next_frame, replay}
+use Rattle.address_world.specs.AddressWorld.{AddressWorld, AddressEvent, Send, Renew, Up, UpRefused, Down, LoseUp, LoseDown, Bus, Respond, GwRepeat, GwClose, Pass, next_frame, replay}
 use Rattle.address_sim.specs.Losses.{without, loses_answer}
 use Rattle.address_sim.specs.Told.{is_broadcast}
 
@@ -50,9 +50,6 @@ carriage_of losses n frame = if is_broadcast frame then without losses n else []
 abbrev pub IsCarriedSo : List UnitLoss → ℕ → Option Ldata → List ℕ → Type 0
 IsCarriedSo losses n None left_out = ⊥
 IsCarriedSo losses n (Some frame) left_out = left_out ≡ carriage_of losses n frame
-
-abbrev pub AllSent : List UnitState → Type 0
-AllSent units = AllByRecursion (λ (u : UnitState). u.unsent ≡ []) units
 
 -- nothing but time can go on for so many milliseconds
 pub record IsStill (w : AddressWorld) (ms : ℕ) : Type 0 where

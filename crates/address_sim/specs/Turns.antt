@@ -12,7 +12,8 @@ use Rattle.address_world.specs.AddressStory.{record_of}
 use Rattle.address_sim.specs.declared.poll.Settled.{Settled}
 use Rattle.address_sim.specs.declared.poll.Settled.TheVariants as settled
 use Rattle.address_sim.specs.declared.run.Beginning.{Beginning}
-use Rattle.address_sim.specs.Follows.{IsInPlace, AllSent}
+use Rattle.address_law.specs.Calm.{AllSent}
+use Rattle.address_sim.specs.Follows.{IsInPlace}
 use Rattle.address_sim.specs.Told.{Begun, RunNow, happened, start, story, time, world as world_of}
 
 abbrev pub begun_of : Beginning → Begun

@@ -2,7 +2,7 @@
 
 ghost use Rattle.std.specs.Prelude.{◌≡◌, [], Some, true, false, IfOk, OnErr, OnOk};
 ghost use Rattle.address_world.specs.AddressWorld.{next_frame};
-ghost use Rattle.address_sim.specs.Follows.{AllSent};
+ghost use Rattle.address_law.specs.Calm.{AllSent};
 ghost use Rattle.address_sim.specs.Told.{is_broadcast};
 ghost use Rattle.address_sim.specs.Turns.{GoesUnseen, Stays, world};
 

@@ -4,7 +4,7 @@ ghost use Rattle.std.specs.Prelude.{◌≡◌, ◌+◌, ◌≤◌, true, false, 
 ghost use Rattle.knx_model.specs.Connection.{last_time};
 ghost use Rattle.line_model.specs.Deliveries.{next_up};
 ghost use Rattle.address_world.specs.AddressWorld.{Pass};
-ghost use Rattle.address_sim.specs.Follows.{AllSent};
+ghost use Rattle.address_law.specs.Calm.{AllSent};
 ghost use Rattle.address_sim.specs.Turns.{Gets, GoesUnseen, Happens, HasRoom, IsCalm, IsQuiet, IsRight, NothingComes, NothingDue, Spends, Stays, now, world};
 
 use crate::frames::response;

@@ -5,7 +5,8 @@ ghost use Rattle.std.specs.Prelude.{◌==◌, ◌||◌, ◌≡◌, ◌≢◌, �
 ghost use Rattle.knx_model.specs.declared.frames.cemi.Ldata.{Ldata as Frame};
 ghost use Rattle.line_model.specs.World.{AtGateway as Hears};
 ghost use Rattle.address_world.specs.AddressWorld.{AddressEvent, Respond, UnitState, all_get, broadcast, changed, gets_broadcast, has_address, oldest_at, response, sends};
-ghost use Rattle.address_sim.specs.Follows.{AllSent, responses};
+ghost use Rattle.address_law.specs.Calm.{AllSent};
+ghost use Rattle.address_sim.specs.Follows.{responses};
 ghost use Rattle.address_sim.specs.Losses.{without};
 ghost use Rattle.address_sim.specs.Told.{at_rest};
 ghost use Rattle.address_world.specs.Shown.{shown};

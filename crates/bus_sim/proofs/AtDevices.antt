@@ -42,8 +42,8 @@ module _ (b : Beginning) (es : List Event) (index : ScriptIndex) (n : LineNow) (
   -- where an event brings it a frame that it takes, this is the next one that it took
   pub closes_so : (e : Event) (device : ℕ) (taken : Bool) (k : ℕ) (c : DeviceCounts) (f : Option Ldata) → takes_one device (replay (start_of b) es) e ≡ takes_alone ((replay (start_of b) es).devices device) f → taken ≡ takes_one device (replay (start_of b) es) e
       → k ≡ min (c.taken + 1) (2 ^ 64 - 1) → c ≡ counts_at counts device → owed_if (taken && closes (said b) device k) (ConnectionCloses device) ≡ connection_closes (said b) (start_of b) es e device
-  closes_so e device taken k c f brings takes number of_it =
-      let on : taken ≡ true → line_of device ≡ counts.line = λ yes_taken. on_line device f (sym brings ∙ sym takes ∙ yes_taken) in
+  closes_so e device taken k c f comes takes number of_it =
+      let on : taken ≡ true → line_of device ≡ counts.line = λ yes_taken. on_line device f (sym comes ∙ sym takes ∙ yes_taken) in
       ap (λ t. owed_if t (ConnectionCloses device)) (where_taken taken (takes_one device (replay (start_of b) es) e) (closes (said b) device) k (frames_taken device (start_of b) (e ∷ es)) takes
       (λ one. number ∙ ap (λ (x : DeviceCounts). min (x.taken + 1) (2 ^ 64 - 1)) of_it ∙ taken_known b es index n counts o h device (on (takes ∙ one)) ∙ sym (ap (λ t. if t then suc (frames_taken device (start_of b) es) else frames_taken device (start_of b) es) one)))
 

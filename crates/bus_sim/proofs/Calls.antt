@@ -1,13 +1,17 @@
 -- What each event is to the counts, and what it calls for.
-use Rattle.std.proofs.Common.{◌≡◌, ℕ, ◌^◌, ◌<◌, ◌==◌, Bool, true, false, ◌&&◌, is_some, List, [], ◌++◌, Option, Some, None, refl, ap, sym, ◌∙◌, arith, if◌then◌else◌}
+use Rattle.std.proofs.Common.{◌≡◌, ℕ, ◌^◌, ◌<◌, ◌==◌, Bool, true, false, ◌&&◌, is_some, List, [], ◌∷◌, ◌++◌, Option, Some, None, refl, ap, sym, ◌∙◌, arith, if◌then◌else◌}
+use Rattle.knx_model.specs.declared.frames.cemi.Ldata.{Ldata}
+use Rattle.knx_model.specs.DeviceState.{DeviceState}
+use Rattle.line_model.specs.Arrives.{for_others}
 use Rattle.line_model.specs.Counts.{asks_connect, takes_alone, write_of}
 use Rattle.network_sim.specs.Window.{capped}
 use Rattle.line_model.specs.Network.{OfSent, Sent}
 use Rattle.line_model.specs.Owed.{Owed}
 use Rattle.line_model.specs.Tunnel.{IsConnectRequest}
 use Rattle.line_model.specs.Reading.{is_connect_request}
-use Rattle.line_model.specs.World.{World, AtGateway, BusAgain, DevSend, DevRepeat, frame_by}
+use Rattle.line_model.specs.World.{World, AtGateway, BusAgain, DevSend, DevRepeat, frame_by, is_among, waiting_at}
 use Rattle.line_sim.specs.Line.{last_at}
+use Rattle.bus_sim.proofs.Carried.{group_taken, group_written}
 use Rattle.bus_sim.proofs.Counting.{Counts, takes_nothing, writes_nothing}
 use Rattle.bus_sim.proofs.Owings.{and_nothing}
 
@@ -39,10 +43,29 @@ pub sends_one : (w : World) (device : ℕ) (at : AtGateway) → Counts w (DevSen
 sends_one w device at = record {
   to = λ a. either_false (a == device);
   from = λ a. turned a device;
-  taken = λ a. takes_nothing (w.devices a) ∙ either_false (a == device);
-  wrote = λ a. writes_nothing (w.devices a) ∙ either_false (a == device);
+  taken = λ a. none_taken (w.devices a) (is_among (device ∷ []) a) (waiting_at w device) ∙ either_false (a == device);
+  wrote = λ a. none_written (w.devices a) (is_among (device ∷ []) a) (waiting_at w device) ∙ either_false (a == device);
   connect = refl;
 }
+  where
+    -- a group telegram is taken by none alone
+    none_taken : (o : Option DeviceState) (b : Bool) (q : Option Ldata) → takes_alone o (if b then None else for_others q) ≡ false
+    none_taken o true q = takes_nothing o
+    none_taken o false None = takes_nothing o
+    none_taken o false (Some f) = by_group f.group refl
+      where
+        by_group : (g : Bool) → f.group ≡ g → takes_alone o (if g then Some f else None) ≡ false
+        by_group true e = group_taken o f e
+        by_group false e = takes_nothing o
+
+    none_written : (o : Option DeviceState) (b : Bool) (q : Option Ldata) → is_some (write_of o (if b then None else for_others q)) ≡ false
+    none_written o true q = writes_nothing o
+    none_written o false None = writes_nothing o
+    none_written o false (Some f) = by_group f.group refl
+      where
+        by_group : (g : Bool) → f.group ≡ g → is_some (write_of o (if g then Some f else None)) ≡ false
+        by_group true e = group_written o f e
+        by_group false e = writes_nothing o
 
 pub repeats_one : (w : World) (device : ℕ) (at : AtGateway) → Counts w (DevRepeat device at) device (record { to = false; from = true; taken = false; wrote = false })
 repeats_one w device at = record {

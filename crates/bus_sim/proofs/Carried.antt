@@ -5,7 +5,8 @@ use Rattle.knx_model.specs.declared.frames.cemi.Ldata.{Ldata}
 use Rattle.knx_model.specs.Device.{Effect, Nothing, is_write}
 use Rattle.knx_model.specs.DeviceFrames.{connection_took, effect_delivered, effect_of_frame, is_taken, is_too_long, took_of, would_write, write_kind}
 use Rattle.knx_model.specs.DeviceState.{DeviceState}
-use Rattle.line_model.specs.Counts.{is_for, takes_alone, write_of}
+use Rattle.line_model.specs.Arrives.{is_for, only_for}
+use Rattle.line_model.specs.Counts.{takes_alone, write_of}
 use Rattle.line_model.specs.World.{World, Bus, BusTorn, BusWorn, is_among, next_frame}
 use Rattle.bus_sim.proofs.Counting.{Counts, takes_nothing, writes_nothing}
 
@@ -71,7 +72,7 @@ pub group_taken : (o : Option DeviceState) (frame : Ldata) → frame.group ≡ t
 group_taken None frame e = refl
 group_taken (Some d) frame e = ap (λ t. not t && is_taken (took_of d frame)) e
 
-group_written : (o : Option DeviceState) (frame : Ldata) → frame.group ≡ true → is_some (write_of o (Some frame)) ≡ false
+pub group_written : (o : Option DeviceState) (frame : Ldata) → frame.group ≡ true → is_some (write_of o (Some frame)) ≡ false
 group_written None frame e = refl
 group_written (Some d) frame e = not_written d frame (ap (λ t. not t && is_taken (took_of d frame)) e)
 
@@ -125,6 +126,21 @@ module _ (w : World) (left_out : List ℕ) (frame : Ldata) (due : Some frame ≡
       by_here true e = ap (λ k. is_some (write_of (w.devices k) (if is_among left_out k then None else next_frame w))) (same_number a frame.destination e) ∙ here frame.group (is_among left_out frame.destination) refl
       by_here false e = away (is_among left_out a) e
 
+  -- torn and worn, it comes to the device that it is for alone
+  pub alone_taken_at : (a : ℕ) → frame.group ≡ false → takes_alone (w.devices a) (only_for a (next_frame w)) ≡ (if a == frame.destination then takes_alone (w.devices frame.destination) (Some frame) else false)
+  alone_taken_at a alone = ap (λ t. takes_alone (w.devices a) (if t then next_frame w else None)) (to_at a ∙ ap (λ t. if a == frame.destination then not t else false) alone) ∙ by_here (a == frame.destination) refl
+    where
+      by_here : (t : Bool) → (a == frame.destination) ≡ t → takes_alone (w.devices a) (if (if t then true else false) then next_frame w else None) ≡ (if t then takes_alone (w.devices frame.destination) (Some frame) else false)
+      by_here true e = sym (ap (takes_alone (w.devices a)) due) ∙ ap (λ k. takes_alone (w.devices k) (Some frame)) (same_number a frame.destination e)
+      by_here false e = takes_nothing (w.devices a)
+
+  pub alone_wrote_at : (a : ℕ) → frame.group ≡ false → is_some (write_of (w.devices a) (only_for a (next_frame w))) ≡ (if a == frame.destination then is_some (write_of (w.devices frame.destination) (Some frame)) else false)
+  alone_wrote_at a alone = ap (λ t. is_some (write_of (w.devices a) (if t then next_frame w else None))) (to_at a ∙ ap (λ t. if a == frame.destination then not t else false) alone) ∙ by_here (a == frame.destination) refl
+    where
+      by_here : (t : Bool) → (a == frame.destination) ≡ t → is_some (write_of (w.devices a) (if (if t then true else false) then next_frame w else None)) ≡ (if t then is_some (write_of (w.devices frame.destination) (Some frame)) else false)
+      by_here true e = sym (ap (λ f. is_some (write_of (w.devices a) f)) due) ∙ ap (λ k. is_some (write_of (w.devices k) (Some frame))) (same_number a frame.destination e)
+      by_here false e = writes_nothing (w.devices a)
+
 none_from : (t : Bool) → false ≡ (if t then false else false)
 none_from true = refl
 none_from false = refl
@@ -165,8 +181,8 @@ pub torn_one : (w : World) (frame : Ldata) (fresh : Bool) (octets : List ℕ) �
 torn_one w frame fresh octets due named is = record {
   to = λ a. to_at w [] frame due named a ∙ ap (λ t. if a == frame.destination then not t else false) is.alone;
   from = λ a. none_from (a == frame.destination);
-  taken = λ a. taken_at w [] frame due named a ∙ ap (λ t. if a == frame.destination then (not t && true) && takes_alone (w.devices frame.destination) (Some frame) else false) is.alone ∙ ap (λ t. if a == frame.destination then t else false) is.taken;
-  wrote = λ a. wrote_at w [] frame due named a ∙ ap (λ t. if a == frame.destination then (not t && true) && is_some (write_of (w.devices frame.destination) (Some frame)) else false) is.alone ∙ ap (λ t. if a == frame.destination then t else false) is.written;
+  taken = λ a. alone_taken_at w [] frame due named a is.alone ∙ ap (λ t. if a == frame.destination then t else false) is.taken;
+  wrote = λ a. alone_wrote_at w [] frame due named a is.alone ∙ ap (λ t. if a == frame.destination then t else false) is.written;
   connect = refl;
 }
 
@@ -174,7 +190,7 @@ pub worn_one : (w : World) (frame : Ldata) (octets : List ℕ) → Some frame �
 worn_one w frame octets due named is = record {
   to = λ a. to_at w [] frame due named a ∙ ap (λ t. if a == frame.destination then not t else false) is.alone;
   from = λ a. none_from (a == frame.destination);
-  taken = λ a. taken_at w [] frame due named a ∙ ap (λ t. if a == frame.destination then (not t && true) && takes_alone (w.devices frame.destination) (Some frame) else false) is.alone ∙ ap (λ t. if a == frame.destination then t else false) is.taken;
-  wrote = λ a. wrote_at w [] frame due named a ∙ ap (λ t. if a == frame.destination then (not t && true) && is_some (write_of (w.devices frame.destination) (Some frame)) else false) is.alone ∙ ap (λ t. if a == frame.destination then t else false) is.written;
+  taken = λ a. alone_taken_at w [] frame due named a is.alone ∙ ap (λ t. if a == frame.destination then t else false) is.taken;
+  wrote = λ a. alone_wrote_at w [] frame due named a is.alone ∙ ap (λ t. if a == frame.destination then t else false) is.written;
   connect = refl;
 }

@@ -2,7 +2,8 @@
 use Rattle.std.proofs.Common.{◌≡◌, ℕ, suc, ◌+◌, ◌-◌, ◌^◌, ◌==◌, Bool, true, false, not, ◌&&◌, List, [], ◌∷◌, ◌++◌, Option, Some, None, refl, ap, sym, ◌∙◌, arith, if◌then◌else◌}
 use Rattle.std.specs.Prelude.{min}
 use Rattle.knx_model.specs.declared.frames.cemi.Ldata.{Ldata}
-use Rattle.line_model.specs.Counts.{carried_at, frames_to, goes_to, is_for, takes_alone, takes_one}
+use Rattle.line_model.specs.Arrives.{is_for, only_for}
+use Rattle.line_model.specs.Counts.{carried_at, frames_to, goes_to, takes_alone, takes_one}
 use Rattle.line_model.specs.Lines.{closes, repeats_to}
 use Rattle.line_model.specs.Owed.{Owed, BringAgain, ConnectionCloses, caused, connection_closes, frame_again, owed_if, owed_of_carried, power_returns}
 use Rattle.line_model.specs.World.{World, Event, Bus, is_among, next_frame, replay}
@@ -24,9 +25,9 @@ module _ (b : Beginning) (es : List Event) (index : ScriptIndex) (n : LineNow) (
   pub again_so : (e : Event) (device : ℕ) (taken : Bool) (k : ℕ) (c : DeviceCounts) (f : Option Ldata) → takes_one device (replay (start_of b) es) e ≡ takes_alone ((replay (start_of b) es).devices device) f → taken ≡ takes_one device (replay (start_of b) es) e
       → (takes_one device (replay (start_of b) es) e ≡ true → goes_to device (replay (start_of b) es) e ≡ true) → k ≡ min (c.to + 1) (2 ^ 64 - 1) → c ≡ counts_at counts device
       → owed_if (taken && repeats_to (said b) device k) (BringAgain device) ≡ frame_again (said b) (start_of b) es e device
-  again_so e device taken k c f brings takes goes number of_it =
+  again_so e device taken k c f comes takes goes number of_it =
       ap (λ t. owed_if t (BringAgain device)) (where_taken taken (takes_one device (replay (start_of b) es) e) (repeats_to (said b) device) k (frames_to device (start_of b) (e ∷ es)) takes
-      (λ one. number ∙ ap (λ (x : DeviceCounts). min (x.to + 1) (2 ^ 64 - 1)) of_it ∙ to_known b es index n counts o h device (on_line b es index n counts o h device f (sym brings ∙ one))
+      (λ one. number ∙ ap (λ (x : DeviceCounts). min (x.to + 1) (2 ^ 64 - 1)) of_it ∙ to_known b es index n counts o h device (on_line b es index n counts o h device f (sym comes ∙ one))
       ∙ sym (ap (λ t. if t then suc (frames_to device (start_of b) es) else frames_to device (start_of b) es) (goes one))))
 
   -- a frame that isn't lost for its device
@@ -89,14 +90,16 @@ module _ (b : Beginning) (es : List Event) (index : ScriptIndex) (n : LineNow) (
             ap (λ t. owed_if (t && repeats_to (said b) frame.destination k) (BringAgain frame.destination) ++ owed_if (t && closes (said b) frame.destination m) (ConnectionCloses frame.destination)) nobody ∙ group_calls e (sym due) group
 
     -- torn and worn writes are taken
-    pub write_calls : (e : Event) (before : List Owed) (k m : ℕ) (c : DeviceCounts) → carried_at (replay (start_of b) es) e ≡ Some frame → before ≡ power_returns e frame.destination → takes_one frame.destination (replay (start_of b) es) e ≡ takes_alone ((replay (start_of b) es).devices frame.destination) (next_frame (replay (start_of b) es))
+    pub write_calls : (e : Event) (before : List Owed) (k m : ℕ) (c : DeviceCounts) → carried_at (replay (start_of b) es) e ≡ Some frame → before ≡ power_returns e frame.destination → takes_one frame.destination (replay (start_of b) es) e ≡ takes_alone ((replay (start_of b) es).devices frame.destination) (only_for frame.destination (next_frame (replay (start_of b) es)))
         → IsWritten (replay (start_of b) es) frame → k ≡ min (c.to + 1) (2 ^ 64 - 1) → m ≡ min (c.taken + 1) (2 ^ 64 - 1) → c ≡ counts_at counts frame.destination
         → (before ++ owed_if (true && repeats_to (said b) frame.destination k) (BringAgain frame.destination)) ++ owed_if (true && closes (said b) frame.destination m) (ConnectionCloses frame.destination)
         ≡ owed_of_carried (said b) (start_of b) es e (carried_at (replay (start_of b) es) e)
-    write_calls e before k m c goes power brings is number other of_it =
+    write_calls e before k m c goes power comes_so is number other of_it =
         let w : World = replay (start_of b) es in
-        let one : takes_one frame.destination w e ≡ true = brings ∙ sym (ap (takes_alone (w.devices frame.destination)) due) ∙ is.taken in
-        let there : goes_to frame.destination w e ≡ true = ap (is_for frame.destination) goes ∙ goes_there frame.destination is.taken refl in
+        let its : is_for frame.destination (Some frame) ≡ true = goes_there frame.destination is.taken refl in
+        let comes : only_for frame.destination (next_frame w) ≡ Some frame = sym (ap (only_for frame.destination) due) ∙ ap (λ t. if t then Some frame else None) its in
+        let one : takes_one frame.destination w e ≡ true = comes_so ∙ ap (takes_alone (w.devices frame.destination)) comes ∙ is.taken in
+        let there : goes_to frame.destination w e ≡ true = ap (is_for frame.destination) goes ∙ its in
         alone_calls e before _ _ goes is.alone power
-        (again_so e frame.destination true k c (next_frame w) brings (sym one) (λ so. there) number of_it)
-        (closes_so b es index n counts o h e frame.destination true m c (next_frame w) brings (sym one) other of_it)
+        (again_so e frame.destination true k c (only_for frame.destination (next_frame w)) comes_so (sym one) (λ so. there) number of_it)
+        (closes_so b es index n counts o h e frame.destination true m c (only_for frame.destination (next_frame w)) comes_so (sym one) other of_it)

@@ -5,7 +5,8 @@ use Rattle.std.specs.List.{AllByRecursion, filter}
 use Rattle.knx_model.specs.declared.frames.cemi.Ldata.{Ldata}
 use Rattle.knx_model.specs.DeviceFrames.{Outcome}
 use Rattle.knx_model.specs.DeviceState.{DeviceState}
-use Rattle.line_model.specs.Counts.{number_at, brings, takes_alone, takes_one, frames_taken, requests_acted}
+use Rattle.line_model.specs.Arrives.{arrives}
+use Rattle.line_model.specs.Counts.{number_at, takes_alone, takes_one, frames_taken, requests_acted}
 use Rattle.line_model.specs.Legal.{MayHappen, OfDevice, GoesSo}
 use Rattle.line_model.specs.Lines.{Script, closes, drops, repeats_up}
 use Rattle.line_model.specs.Owed.{Owed, DeliverAgain, ReachAgain, BringAgain, PowerReturns, ConnectionCloses, ChannelCloses, owed_if, owed_of_carried, owed_of_frame, power_returns, frame_again, connection_closes, caused}
@@ -141,7 +142,7 @@ is_up _ = false
 module _ (mode : Mode) (script : Script) (start : World) (past : List Event) where
   closes_there : (e : Event) (device : ℕ) → AllByRecursion (AtDevice (step (replay start past) e)) (connection_closes script start past e device)
   closes_there e device = if_owed _ (takes_one device (replay start past) e && closes script device (frames_taken device start (e ∷ past))) (ConnectionCloses device)
-      (λ so. presence (replay start past) e device ∙ takes_there ((replay start past).devices device) (brings device (replay start past) e) (first_true _ _ so))
+      (λ so. presence (replay start past) e device ∙ takes_there ((replay start past).devices device) (arrives (replay start past) device e) (first_true _ _ so))
 
   frame_there : (e : Event) (frame : Ldata) → AllByRecursion (AtDevice (step (replay start past) e)) (power_returns e frame.destination) → AllByRecursion (AtDevice (step (replay start past) e)) (owed_of_frame script start past e frame)
   frame_there e frame power = by_group frame.group

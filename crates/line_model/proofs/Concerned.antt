@@ -1,75 +1,16 @@
--- What stays of a device that an event doesn't concern; and what power that comes back, a closing and a sending leave.
+-- What an event of its own makes of a device: a sending, a repeat, a closing, a cut and power that comes back.
 use Rattle.std.proofs.Common.{◌≡◌, ℕ, List, [], ◌∷◌, Bool, true, false, ◌==◌, refl, sym, ap, ◌∙◌, arith, inl, inr, Option, Some, None, if◌then◌else◌}
-use Rattle.std.proofs.lemmas.Bool.{or_left, or_right, ne_eqb, true_from_ne_false, cases_Bool}
+use Rattle.std.proofs.lemmas.Bool.{or_left, cases_Bool}
 use Rattle.knx_model.specs.declared.frames.cemi.Ldata.{Ldata}
 use Rattle.knx_model.specs.declared.address.IndAddr.{IndAddr}
 use Rattle.knx_model.specs.ApduReading.{option_map}
 use Rattle.knx_model.specs.DeviceConnection.{DeviceEnd, Closed, Idle, Answering, partner_of}
-use Rattle.knx_model.specs.DeviceState.{DeviceState, at_rest, switched_on, zero_values}
-use Rattle.knx_model.specs.DeviceFrames.{Outcome, Torn, Worn, takes}
-use Rattle.knx_model.specs.DeviceSending.{pops, shut, shut_from}
-use Rattle.line_model.specs.Concerns.{Concerns, IsTo, IsToAll}
-use Rattle.line_model.specs.World.{World, Event, Send, From, Renew, Up, UpRefused, Down, LoseUp, LoseDown, Bus, BusTorn, BusWorn, BusAgain, DevSend, DevRepeat, DevClose, GwAgain, GwRepeat, GwClose, Cut, On, Pass, AtGateway, Devices, changed, all_take, one_takes, others_take, is_among, next_frame, waiting_at, now, step}
+use Rattle.knx_model.specs.DeviceState.{DeviceState, at_rest, cut, switched_on, zero_values}
+use Rattle.knx_model.specs.DeviceSending.{pops, repeats, shut, shut_from}
+use Rattle.line_model.specs.World.{World, DevSend, DevRepeat, DevClose, Cut, On, AtGateway, Devices, changed, all_take, others_take, is_among, waiting_at, now, step}
+use Rattle.line_model.proofs.Reached.{left_out_of, where_lost}
 
--- ---- a device that isn't concerned
-
-where_not : (b : Bool) (x y : Option DeviceState) → b ≡ false → (if b then x else y) ≡ y
-where_not true x y e = cc
-where_not false x y e = refl
-
-unchanged : (it device : ℕ) (change : DeviceState → DeviceState) (devices : Devices) → (device ≡ it → ⊥) → changed it change devices device ≡ devices device
-unchanged it device change devices apart = where_not (device == it) (option_map change (devices device)) (devices device) (ne_eqb device it apart)
-
-where_lost : (b : Bool) (x y : Option DeviceState) → b ≡ true → (if b then x else y) ≡ x
-where_lost true x y e = refl
-where_lost false x y e = cc
-
-left_out_of : (at : ℕ) (left_out : List ℕ) (frame : Option Ldata) (devices : Devices) (device : ℕ) → is_among left_out device ≡ true → all_take at left_out frame devices device ≡ devices device
-left_out_of at left_out None devices device among = refl
-left_out_of at left_out (Some frame) devices device among = where_lost (is_among left_out device) (devices device) _ among
-
-not_for : (at : ℕ) (outcome : Outcome) (frame : Option Ldata) (devices : Devices) (device : ℕ) → (IsTo device frame → ⊥) → one_takes at outcome frame devices device ≡ devices device
-not_for at outcome None devices device apart = refl
-not_for at outcome (Some frame) devices device apart = unchanged frame.destination device (λ d. takes d frame at outcome) devices (λ e. apart (sym e))
-
-among_or : (left_out : List ℕ) (it device : ℕ) → is_among left_out device ≡ true → is_among (it ∷ left_out) device ≡ true
-among_or left_out it device among = or_right (it == device) (is_among left_out device) among
-
-not_heard : (at : ℕ) (left_out : List ℕ) (it : ℕ) (frame : Option Ldata) (devices : Devices) (device : ℕ) → ((is_among left_out device ≡ false) × IsToAll frame → ⊥) → others_take at (it ∷ left_out) frame devices device ≡ devices device
-not_heard at left_out it None devices device apart = refl
-not_heard at left_out it (Some frame) devices device apart = elim (cases_Bool frame.group) [
-  | inl group ↦
-      ap (λ (b : Bool). (if b then all_take at (it ∷ left_out) (Some frame) devices else devices) device) group
-      ∙ left_out_of at (it ∷ left_out) (Some frame) devices device (among_or left_out it device (true_from_ne_false (is_among left_out device) (λ e. apart (e, group))))
-  | inr alone ↦ ap (λ (b : Bool). (if b then all_take at (it ∷ left_out) (Some frame) devices else devices) device) alone
-]
-
-pub apart : (w : World) (device : ℕ) (e : Event) → (Concerns w device e → ⊥) → (step w e).devices device ≡ w.devices device
-apart w device (Send octets) away = refl
-apart w device (From endpoint octets) away = refl
-apart w device Renew away = refl
-apart w device (Up age) away = refl
-apart w device (UpRefused age status) away = refl
-apart w device (Down age) away = refl
-apart w device (LoseUp age) away = refl
-apart w device (LoseDown age) away = refl
-apart w device (Bus left_out) away = left_out_of (now w) left_out (next_frame w) w.devices device (true_from_ne_false (is_among left_out device) away)
-apart w device (BusTorn fresh octets) away = not_for (now w) (Torn fresh octets) (next_frame w) w.devices device away
-apart w device (BusWorn octets) away = not_for (now w) (Worn octets) (next_frame w) w.devices device away
-apart w device (BusAgain it) away = unchanged it device _ w.devices away
-apart w device (DevSend it gateway left_out) away =
-    unchanged it device pops (others_take (now w) (it ∷ left_out) (waiting_at w it) w.devices) (λ e. away (inl e))
-    ∙ not_heard (now w) left_out it (waiting_at w it) w.devices device (λ h. away (inr h))
-apart w device (DevRepeat it gateway) away = unchanged it device _ w.devices away
-apart w device (DevClose it) away = unchanged it device shut w.devices away
-apart w device GwAgain away = refl
-apart w device GwRepeat away = refl
-apart w device GwClose away = refl
-apart w device (Cut it) away = unchanged it device _ w.devices away
-apart w device (On it) away = unchanged it device switched_on w.devices away
-apart w device (Pass ms) away = refl
-
--- ---- one that is
+-- ---- an event of its own
 
 itself : (a : ℕ) → (a == a) ≡ true
 itself a = grind arith
@@ -79,6 +20,20 @@ at_itself device change devices = where_lost (device == device) (option_map chan
 
 mapped : (change : DeviceState → DeviceState) (x y : Option DeviceState) (old d : DeviceState) → x ≡ Some old → y ≡ option_map change x → y ≡ Some d → change old ≡ d
 mapped change x y old d is from h = cc
+
+-- what it makes of the device
+
+pub repeats_so : (w : World) (device : ℕ) (gateway : AtGateway) → (step w (DevRepeat device gateway)).devices device ≡ option_map (λ d. repeats d (now w)) (w.devices device)
+repeats_so w device gateway = at_itself device (λ d. repeats d (now w)) w.devices
+
+pub shuts_so : (w : World) (device : ℕ) → (step w (DevClose device)).devices device ≡ option_map shut (w.devices device)
+shuts_so w device = at_itself device shut w.devices
+
+pub cuts_so : (w : World) (device : ℕ) → (step w (Cut device)).devices device ≡ option_map cut (w.devices device)
+cuts_so w device = at_itself device cut w.devices
+
+pub goes_on_so : (w : World) (device : ℕ) → (step w (On device)).devices device ≡ option_map switched_on (w.devices device)
+goes_on_so w device = at_itself device switched_on w.devices
 
 -- power comes back
 
@@ -148,9 +103,12 @@ own_apart at left_out it (Some frame) devices = elim (cases_Bool frame.group) [
   | inr alone ↦ ap (λ (b : Bool). (if b then all_take at (it ∷ left_out) (Some frame) devices else devices) it) alone
 ]
 
+pub sends_so : (w : World) (device : ℕ) (gateway : AtGateway) (left_out : List ℕ) → (step w (DevSend device gateway left_out)).devices device ≡ option_map pops (w.devices device)
+sends_so w device gateway left_out =
+    at_itself device pops (others_take (now w) (device ∷ left_out) (waiting_at w device) w.devices) ∙ ap (option_map pops) (own_apart (now w) left_out device (waiting_at w device) w.devices)
+
 pub sender_keeps : (w : World) (device : ℕ) (gateway : AtGateway) (left_out : List ℕ) (old d : DeviceState) → w.devices device ≡ Some old → (step w (DevSend device gateway left_out)).devices device ≡ Some d
     → (d.kept ≡ old.kept) × (d.values ≡ old.values)
 sender_keeps w device gateway left_out old d is h =
-    let others : Devices = others_take (now w) (device ∷ left_out) (waiting_at w device) w.devices in
-    let is_so : pops old ≡ d = mapped pops (others device) _ old d (own_apart (now w) left_out device (waiting_at w device) w.devices ∙ is) (at_itself device pops others) h in
+    let is_so : pops old ≡ d = mapped pops (w.devices device) _ old d is (sends_so w device gateway left_out) h in
     (ap (λ (x : DeviceState). x.kept) (sym is_so), ap (λ (x : DeviceState). x.values) (sym is_so))

@@ -7,6 +7,7 @@ mod Sessions
 mod Loads
 mod Buses
 mod Concerned
+pub mod Reached
 mod Disturbed
 mod Scripts
 mod Waits

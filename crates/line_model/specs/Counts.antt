@@ -6,9 +6,10 @@ use Rattle.knx_model.specs.declared.device.WriteKind.{WriteKind}
 use Rattle.knx_model.specs.declared.frames.cemi.Ldata.{Ldata}
 use Rattle.knx_model.specs.DeviceState.{DeviceState}
 use Rattle.knx_model.specs.DeviceFrames.{took_of, is_taken, would_write}
+use Rattle.line_model.specs.Arrives.{arrives, is_for}
 use Rattle.line_model.specs.Reading.{datagram_in, is_connect_request}
 use Rattle.line_model.specs.Network.{Sent}
-use Rattle.line_model.specs.World.{World, Event, Up, UpRefused, Bus, BusTorn, BusWorn, BusAgain, DevSend, DevRepeat, next_frame, frame_by, is_among, replay}
+use Rattle.line_model.specs.World.{World, Event, Up, UpRefused, Bus, BusTorn, BusWorn, DevSend, DevRepeat, next_frame, replay}
 
 -- in how many events something held, of the world before it
 abbrev pub count : (World → Event → Bool) → World → List Event → ℕ
@@ -24,10 +25,6 @@ carried_at w (BusTorn fresh octets) = next_frame w
 carried_at w (BusWorn octets) = next_frame w
 carried_at w _ = None
 
-abbrev pub is_for : ℕ → Option Ldata → Bool
-is_for device None = false
-is_for device (Some frame) = not frame.group && (frame.destination == device)
-
 -- a frame for this device alone goes over the bus, also while it is off and where it is lost for it
 abbrev pub goes_to : ℕ → World → Event → Bool
 goes_to device w e = is_for device (carried_at w e)
@@ -38,14 +35,7 @@ comes_from device w (DevSend from gateway left_out) = from == device
 comes_from device w (DevRepeat from gateway) = from == device
 comes_from device w _ = false
 
--- ---- what a device gets at an event
-
-abbrev pub brings : ℕ → World → Event → Option Ldata
-brings device w (Bus left_out) = if is_among left_out device then None else next_frame w
-brings device w (BusTorn fresh octets) = next_frame w
-brings device w (BusWorn octets) = next_frame w
-brings device w (BusAgain address) = if address == device then frame_by (λ d. d.last) (w.devices device) else None
-brings device w _ = None
+-- ---- what a device takes of the frames that come to it
 
 abbrev pub takes_alone : Option DeviceState → Option Ldata → Bool
 takes_alone (Some d) (Some frame) = not frame.group && is_taken (took_of d frame)
@@ -53,7 +43,7 @@ takes_alone _ _ = false
 
 -- the device takes a frame for it alone; one taken twice is taken twice
 abbrev pub takes_one : ℕ → World → Event → Bool
-takes_one device w e = takes_alone (w.devices device) (brings device w e)
+takes_one device w e = takes_alone (w.devices device) (arrives w device e)
 
 abbrev pub write_of : Option DeviceState → Option Ldata → Option WriteKind
 write_of (Some d) (Some frame) = would_write d frame
@@ -61,7 +51,7 @@ write_of _ _ = None
 
 -- it is a write of the device, whole, torn or worn
 abbrev pub writes_one : ℕ → World → Event → Bool
-writes_one device w e = is_some (write_of (w.devices device) (brings device w e))
+writes_one device w e = is_some (write_of (w.devices device) (arrives w device e))
 
 -- ---- connect requests at the gateway
 

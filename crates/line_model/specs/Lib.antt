@@ -8,6 +8,7 @@ pub mod Gateway
 pub mod Tunnel
 pub mod GatewayEnd
 pub mod World
+pub mod Arrives
 pub mod Concerns
 pub mod Legal
 pub mod Fresh

@@ -1,7 +1,7 @@
 -- What a group telegram does to the devices that get it (ISO/IEC 14543-3-1, application layer): in a device that doesn't run, values and unsent
 -- frames stay. In one that runs, exactly the objects that the running configuration links to the group, with the right flags and form, take
 -- the value, all others keep theirs, and exactly the answering object's value joins the unsent frames as a response.
-use Rattle.std.specs.Prelude.{◌≡◌, ℕ, ◌++◌, ◌⊎◌, Bool, true, false, ◌==◌, List, [], ◌∷◌, if◌then◌else◌, Option, Some, None}
+use Rattle.std.specs.Prelude.{◌≡◌, ℕ, ◌++◌, ◌⊎◌, Bool, true, false, List, [], ◌∷◌, Option, Some, None}
 use Rattle.knx_model.specs.declared.config.Config.{Config}
 use Rattle.knx_model.specs.declared.config.Image.{Image}
 use Rattle.knx_model.specs.declared.frames.cemi.Ldata.{Ldata}
@@ -15,23 +15,8 @@ use Rattle.knx_model.specs.DeviceState.{DeviceState, value_of}
 use Rattle.knx_model.specs.DeviceFrames.{group_service, own_frame, response_octets}
 use Rattle.knx_model.specs.Meaning.{Installation, meaning}
 use Rattle.knx_model.specs.Tables.{StandsFor}
-use Rattle.line_model.specs.World.{World, Event, Bus, BusAgain, DevSend, next_frame, waiting_at, frame_by, is_among, step, replay}
-
--- ---- which frame comes to a device at an event
-
-abbrev pub unless_among : List ℕ → ℕ → Option Ldata → Option Ldata
-unless_among left_out device frame = if is_among left_out device then None else frame
-
--- only a group telegram comes to the other devices
-abbrev pub for_others : Option Ldata → Option Ldata
-for_others None = None
-for_others (Some frame) = if frame.group then Some frame else None
-
-abbrev pub gets : World → ℕ → Event → Option Ldata
-gets w device (Bus left_out) = unless_among left_out device (next_frame w)
-gets w device (BusAgain address) = if address == device then frame_by (λ d. d.last) (w.devices device) else None
-gets w device (DevSend from gateway left_out) = unless_among (from ∷ left_out) device (for_others (waiting_at w from))
-gets w device _ = None
+use Rattle.line_model.specs.Arrives.{arrives}
+use Rattle.line_model.specs.World.{World, Event, step, replay}
 
 -- ---- what a group telegram does to a device
 
@@ -101,7 +86,7 @@ Acting = ℕ → Option GroupService → Option Image → DeviceState → Device
 abbrev pub EventActsRight : Acting → World → Event → Type 0
 EventActsRight Acts w event =
     (device : ℕ) (old new : DeviceState) (frame : Ldata) → w.devices device ≡ Some old → (step w event).devices device ≡ Some new → old.power ≡ true
-    → gets w device event ≡ Some frame → frame.group ≡ true → Acts frame.destination (group_service (service_in frame.tpdu)) (runs old.kept) old new
+    → arrives w device event ≡ Some frame → frame.group ≡ true → Acts frame.destination (group_service (service_in frame.tpdu)) (runs old.kept) old new
 
 abbrev pub TelegramsActRight : Acting → World → List Event → Type 0
 TelegramsActRight Acts start [] = Unit {0}

@@ -3,8 +3,11 @@
 ghost use Rattle.std.specs.Prelude.{◌≡◌, ◌≢◌, ◌⊎◌, ℕ, ◌+◌, ◌<◌, ◌≤◌, ◌++◌, [], ◌∷◌, List, Option, Some, None, length, slice_get, ◌↔◌, true, false, not};
 ghost use Rattle.knx_model.specs.Cemi.{Reads as ReadsLdata};
 ghost use Rattle.knx_model.specs.DeviceConnection.{Closed};
+ghost use Rattle.knx_model.specs.ApduReading.{option_map};
 ghost use Rattle.knx_model.specs.Device.{NonVolatile};
-ghost use Rattle.knx_model.specs.DeviceState.{DeviceState, framed, zero_values};
+ghost use Rattle.knx_model.specs.DeviceFrames.{takes};
+ghost use Rattle.knx_model.specs.DeviceSending.{pops, repeats, shut};
+ghost use Rattle.knx_model.specs.DeviceState.{DeviceState, cut, framed, switched_on, zero_values};
 ghost use Rattle.knx_model.specs.KnxNetIp.{Reads as ReadsDatagram};
 ghost use Rattle.knx_model.specs.Meaning.{Installation, meaning};
 ghost use Rattle.knx_model.specs.Promises.{StartOf};
@@ -14,11 +17,12 @@ ghost use Rattle.knx_model.specs.declared.script.GroupService.{GroupService};
 ghost use Rattle.knx_model.specs.declared.frames.cemi.Ldata.{Ldata};
 ghost use Rattle.knx_model.specs.declared.frames.ip.IpFrame.{IpFrame};
 ghost use Rattle.knx_model.specs.declared.frames.ip.IpFrame.TheVariants.{ConnectResponse, DisconnectRequest, DisconnectResponse, TunnellingAck};
-ghost use Rattle.line_model.specs.Concerns.{Concerns};
+ghost use Rattle.line_model.specs.Arrives.{arrives, taken_as};
+ghost use Rattle.line_model.specs.Concerns.{Concerns, IsOwn};
 ghost use Rattle.line_model.specs.ChannelLost.{Own, acknowledges, expected, is_lost};
 ghost use Rattle.line_model.specs.Lapses.{IsLostSo};
 ghost use Rattle.line_model.specs.Gateway.{Gateway, Channel, Request, Nothing, Closing, number_of, next_number, names, connects, took, answers, next_put, channel_expired, closed};
-ghost use Rattle.line_model.specs.Legal.{IsLegal};
+ghost use Rattle.line_model.specs.Legal.{DevicesAllow, IsLegal};
 ghost use Rattle.line_model.specs.Lines.{Script, is_off, is_standard};
 ghost use Rattle.line_model.specs.Network.{Sent, MayArrive, new_datagram};
 ghost use Rattle.line_model.specs.Reading.{RequestFrame, AckFrame, datagram_in, ldata_in};
@@ -27,7 +31,7 @@ ghost use Rattle.line_model.specs.Renews.{calls_for};
 ghost use Rattle.line_model.specs.StartOf.{BeginsAs, frames_for, nothing_kept, powered};
 ghost use Rattle.line_model.specs.Telegrams.{ActsByConfig, ActsByProject};
 ghost use Rattle.line_model.specs.Tunnel.{Mode, IsLegal as IsLegalInTunnel, replay as tunnel_replay};
-ghost use Rattle.line_model.specs.World.{World, Event, AtGateway, Cut, DevClose, DevSend, On, takes_it, is_among, confirmation, step, replay, tunnel_events};
+ghost use Rattle.line_model.specs.World.{World, Event, AtGateway, Cut, DevClose, DevRepeat, DevSend, On, now, takes_it, is_among, confirmation, step, replay, tunnel_events};
 
 /// The frame that a datagram is, and the frame of the link layer that a request's octets are, are those that the octets read as.
 pub fn frames_are_read()
@@ -89,9 +93,21 @@ pub fn a_device_closes_its_connection()
     ensures values { (w : World) (device : ℕ) (old d : DeviceState) → w.devices device ≡ Some old → (step w (DevClose device)).devices device ≡ Some d → (d.kept ≡ old.kept) × (d.values ≡ old.values) }
 {}
 
+/// What reaches a device makes of it what it is after the event: a frame that comes to it is taken, in the way that the event says; one of its own that
+/// it sends or repeats, a closing, a cut and power that comes back each change it so, and nothing else does.
+pub fn a_device_changes_by_what_reaches_it()
+    ensures nothing { (w : World) (device : ℕ) (e : Event) → DevicesAllow w e → arrives w device e ≡ None → ¬ IsOwn device e → (step w e).devices device ≡ w.devices device }
+    ensures frame { (w : World) (device : ℕ) (e : Event) (frame : Ldata) → arrives w device e ≡ Some frame → (step w e).devices device ≡ option_map (λ d. takes d frame (now w) (taken_as e)) (w.devices device) }
+    ensures sends { (w : World) (device : ℕ) (gateway : AtGateway) (left_out : List ℕ) → (step w (DevSend device gateway left_out)).devices device ≡ option_map pops (w.devices device) }
+    ensures repeats { (w : World) (device : ℕ) (gateway : AtGateway) → (step w (DevRepeat device gateway)).devices device ≡ option_map (λ d. repeats d (now w)) (w.devices device) }
+    ensures closes { (w : World) (device : ℕ) → (step w (DevClose device)).devices device ≡ option_map shut (w.devices device) }
+    ensures cut { (w : World) (device : ℕ) → (step w (Cut device)).devices device ≡ option_map cut (w.devices device) }
+    ensures on { (w : World) (device : ℕ) → (step w (On device)).devices device ≡ option_map switched_on (w.devices device) }
+{}
+
 /// A device changes only by a frame that comes to it, and by events of its own; one that sends keeps its values, and what it keeps without power.
 pub fn what_comes_to_no_device_changes_none()
-    ensures apart { (w : World) (device : ℕ) (e : Event) → ¬ Concerns w device e → (step w e).devices device ≡ w.devices device }
+    ensures apart { (w : World) (device : ℕ) (e : Event) → DevicesAllow w e → ¬ Concerns w device e → (step w e).devices device ≡ w.devices device }
     ensures sender { (w : World) (device : ℕ) (gateway : AtGateway) (left_out : List ℕ) (old d : DeviceState) → w.devices device ≡ Some old → (step w (DevSend device gateway left_out)).devices device ≡ Some d → (d.kept ≡ old.kept) × (d.values ≡ old.values) }
 {}
 

@@ -11,13 +11,11 @@ use Rattle.line_model.specs.Fresh.{HasNothingToSend, Settled}
 use Rattle.line_model.specs.Gateway.{GatewayExpired, Nothing, Repeat, Closing, gateway_expired}
 use Rattle.line_model.specs.Tunnel.{Mode, Commissions, Serves, made}
 use Rattle.line_model.specs.World.{World, next_frame, now, on_bus}
-use Rattle.network_sim.specs.declared.place.Reach.{Reach}
 use Rattle.network_sim.specs.declared.place.Reach.TheVariants.{Every, To}
 use Rattle.network_sim.specs.Arriving.{AllOver}
 use Rattle.network_sim.proofs.Over.{all_over}
 use Rattle.tunnel_sim.specs.declared.gateway.Due.{Due}
 use Rattle.tunnel_sim.specs.declared.gateway.Due.TheVariants as due
-use Rattle.line_sim.specs.Due.{IsSettledWithin}
 use Rattle.tunnel_sim.specs.Gateways.{due_of}
 use Rattle.line_sim.specs.Places.{sending_at}
 
@@ -75,26 +73,15 @@ none_for_world P Q (Some s) w h q = tt
 
 -- ---- settled
 
-pub settled_exactly : (reach : Reach) (w : World) (up down bus silent : Bool) → IsTrue up ↔ AllOver Every (made w.tunnel) w.tunnel.network.up → IsTrue down ↔ AllOver reach (made w.tunnel) w.tunnel.network.down
-    → IsTrue bus ↔ (w.tunnel.gateway.bus ≡ []) → IsTrue silent ↔ HasNothingToSend w (now w) → IsTrue ((up && down) && (bus && silent)) ↔ IsSettledWithin reach w
-settled_exactly reach w up down bus silent of_up of_down of_bus of_silent = (
+pub settled_exactly : (w : World) (up down bus silent : Bool) → IsTrue up ↔ AllOver Every (made w.tunnel) w.tunnel.network.up → IsTrue down ↔ AllOver (To w.tunnel.present) (made w.tunnel) w.tunnel.network.down
+    → IsTrue bus ↔ (w.tunnel.gateway.bus ≡ []) → IsTrue silent ↔ HasNothingToSend w (now w) → IsTrue ((up && down) && (bus && silent)) ↔ Settled Commissions w
+settled_exactly w up down bus silent of_up of_down of_bus of_silent = (
   (λ h. let halves = both_true (up && down) (bus && silent) h in let over = both_true up down halves.0 in let still = both_true bus silent halves.1 in record {
-    up = of_up.0 over.0;
-    down = of_down.0 over.1;
-    bus = of_bus.0 still.0;
+    tunnel = record { up = of_up.0 over.0; down = of_down.0 over.1; bus = of_bus.0 still.0 };
     nothing_to_send = of_silent.0 still.1;
   }),
-  (λ s. and_true (up && down) (bus && silent) (and_true up down (of_up.1 s.up) (of_down.1 s.down)) (and_true bus silent (of_bus.1 s.bus) (of_silent.1 s.nothing_to_send))),
+  (λ s. and_true (up && down) (bus && silent) (and_true up down (of_up.1 s.tunnel.up) (of_down.1 s.tunnel.down)) (and_true bus silent (of_bus.1 s.tunnel.bus) (of_silent.1 s.nothing_to_send))),
 )
-
-pub settled_in_run : (w : World) → IsSettledWithin (To w.tunnel.present) w ↔ Settled Commissions w
-settled_in_run w = (
-  (λ s. record { tunnel = record { up = s.up; down = s.down; bus = s.bus }; nothing_to_send = s.nothing_to_send }),
-  (λ s. record { up = s.tunnel.up; down = s.tunnel.down; bus = s.tunnel.bus; nothing_to_send = s.nothing_to_send }),
-)
-
-pub both_ways : {P Q R : Type 0} → P ↔ Q → Q ↔ R → P ↔ R
-both_ways f g = ((λ p. g.0 (f.0 p)), (λ r. f.1 (g.1 r)))
 
 no_frame : (w : World) → next_frame w ≡ None → w.tunnel.gateway.bus ≡ []
 no_frame w h = by_bus w.tunnel.gateway.bus h

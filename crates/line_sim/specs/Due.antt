@@ -1,13 +1,7 @@
 -- The nearest of the times at which the waits of a line have passed (ISO/IEC 14543-3-2, transport layer, and ISO 22510, Tunnelling).
-use Rattle.std.specs.Prelude.{◌≡◌, ℕ, ◌≤◌, [], Option, Some, None}
+use Rattle.std.specs.Prelude.{◌≡◌, ℕ, ◌≤◌, Option, Some, None}
 use Rattle.knx_model.specs.DeviceConnection.{device_deadline}
 use Rattle.knx_model.specs.DeviceState.{DeviceState}
-use Rattle.line_model.specs.Fresh.{HasNothingToSend}
-use Rattle.line_model.specs.Tunnel.{made}
-use Rattle.line_model.specs.World.{World, now}
-use Rattle.network_sim.specs.declared.place.Reach.{Reach}
-use Rattle.network_sim.specs.declared.place.Reach.TheVariants.{Every}
-use Rattle.network_sim.specs.Arriving.{AllOver}
 
 -- the time at which the connection of a device has something due
 abbrev pub deadline_at : Option DeviceState → Option ℕ
@@ -19,10 +13,3 @@ pub record IsNearest (times : ℕ → Option ℕ) (nearest : Option ℕ) : Type 
   pub never : nearest ≡ None → (a : ℕ) → times a ≡ None
   pub least : (end : ℕ) → nearest ≡ Some end → (a t : ℕ) → times a ≡ Some t → end ≤ t
   pub named : (end : ℕ) → nearest ≡ Some end → (a : ℕ) × (times a ≡ Some end)
-
--- nothing but time can go on, where datagrams down arrive so
-pub record IsSettledWithin (reach : Reach) (w : World) : Type 0 where
-  pub up : AllOver Every (made w.tunnel) w.tunnel.network.up
-  pub down : AllOver reach (made w.tunnel) w.tunnel.network.down
-  pub bus : w.tunnel.gateway.bus ≡ []
-  pub nothing_to_send : HasNothingToSend w (now w)

@@ -9,7 +9,6 @@ ghost use Rattle.line_model.specs.Tunnel.{Mode, Commissions};
 ghost use Rattle.line_model.specs.World.{World, now};
 ghost use Rattle.tunnel_sim.specs.Gateways.{due_of};
 ghost use Rattle.line_sim.specs.Line.{IsNow};
-ghost use Rattle.line_sim.specs.Due.{IsSettledWithin};
 ghost use Rattle.line_sim.specs.Places.{IsDue, sending_at};
 
 use super::Line;
@@ -61,15 +60,12 @@ impl Line {
     pub fn is_settled(&self) -> bool
         ensures { (w : World) → IsNow self.now w → (IsTrue result ↔ Settled Commissions w) }
     {
-        self.is_settled_within(Reach::To(self.tunnel.present))
-    }
-
-    fn is_settled_within(&self, reach: Reach) -> bool
-        ensures { (w : World) → IsNow self.now w → (IsTrue result ↔ IsSettledWithin reach w) }
-    {
         let made = self.tunnel.gateway.made;
         let is_over = self.tunnel.up.is_over(Reach::Every, made)
-            & self.tunnel.down.is_over(reach, made);
+            & self
+                .tunnel
+                .down
+                .is_over(Reach::To(self.tunnel.present), made);
         let is_silent = self.frame_due().is_none() & self.has_nothing_to_send();
         is_over & is_silent
     }

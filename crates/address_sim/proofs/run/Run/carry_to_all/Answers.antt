@@ -5,7 +5,8 @@ use Rattle.line_model.specs.Tunnel.{Carried}
 use Rattle.tunnel_sim.specs.Tunnels.{IsTunnel, tunnel_now}
 use Rattle.address_world.specs.declared.unit.UnitLoss.{UnitLoss}
 use Rattle.address_world.specs.AddressWorld.{AddressWorld, Bus, next_frame, replay}
-use Rattle.address_sim.specs.Follows.{AllSent, IsInPlace, broadcasts}
+use Rattle.address_law.specs.Calm.{AllSent}
+use Rattle.address_sim.specs.Follows.{IsInPlace, broadcasts}
 use Rattle.address_sim.specs.Losses.{without}
 use Rattle.address_sim.specs.Told.{start_of}
 use Rattle.address_sim.specs.Turns.{RunState, GoesUnseen, begun_of, world}
