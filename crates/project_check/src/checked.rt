@@ -118,11 +118,11 @@ fn judged_in_threads<R: Threads + Sync>(
     ensures found { IfOk result (λ judged. judged.0 ≡ first_broken catalogue.now statements.now) }
     ensures devices { IfOk result (λ judged. AreDevices judged.1.items statements.now) }
 {
-    let (models, links) = named_in_threads(rt, alloc, catalogue, statements);
-    let models = models?;
+    let (named, links) = named_in_threads(rt, alloc, catalogue, statements);
+    let (models, devices) = named?;
     let links = links?;
     let (gathered, sorted) = gathered_in_threads(rt, alloc, &models, statements, links);
-    let (gathered, devices) = gathered?;
+    let gathered = gathered?;
     let whole = Whole::of(gathered, sorted);
     let found = first_in_threads(rt, alloc, &whole, statements)?;
     Ok((found, devices))

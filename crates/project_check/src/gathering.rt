@@ -1,5 +1,5 @@
-//! What is known of a whole text, and its devices, in two steps of two threads each: the models that it names beside its links, then what it
-//! declares and its devices while the links are sorted.
+//! What is known of a whole text, in two steps of two threads each: the models that it names and its devices beside its links, then what it
+//! declares while the links are sorted.
 
 ghost use Rattle.std.specs.Prelude.{◌≡◌, List, IfOk};
 ghost use Rattle.std.specs.Thread.{IsSync};
@@ -31,20 +31,22 @@ trait Search {
         ensures { IfOk result (is_found self.now) };
 }
 
-/// For the models that the `device` lines name.
+/// For what the `device` lines name: the models, and the devices.
 #[derive(Clone, Copy)]
-struct OfModels<'a> {
+struct OfNames<'a> {
     catalogue: &'a Catalogue,
     statements: &'a [Statement<'a>],
 }
 
-impl<'a> Search for OfModels<'a> {
-    type Found = NamedModels<'a>;
+impl<'a> Search for OfNames<'a> {
+    type Found = (NamedModels<'a>, Vec<IndAddr>);
 
-    ghost is_found = { λ text models. AreNamed text.catalogue.now models text.statements.now };
+    ghost is_found = { λ text found. AreNamed text.catalogue.now found.0 text.statements.now × AreDevices found.1.items text.statements.now };
 
-    fn found(&self, alloc: Global) -> Result<NamedModels<'a>, AllocError> {
-        NamedModels::of(alloc, self.catalogue, self.statements)
+    fn found(&self, alloc: Global) -> Result<(NamedModels<'a>, Vec<IndAddr>), AllocError> {
+        let models = NamedModels::of(alloc, self.catalogue, self.statements)?;
+        let devices = ascending_devices(alloc, self.statements)?;
+        Ok((models, devices))
     }
 }
 
@@ -64,7 +66,7 @@ impl Search for OfLinks<'_> {
     }
 }
 
-/// For what is known but of the links, and for the devices, where the models are known.
+/// For what is known but of the links, where the models are known.
 #[derive(Clone, Copy)]
 struct OfRest<'b, 'a> {
     models: &'b NamedModels<'a>,
@@ -72,14 +74,12 @@ struct OfRest<'b, 'a> {
 }
 
 impl<'b, 'a> Search for OfRest<'b, 'a> {
-    type Found = (Gathered<'b, 'a>, Vec<IndAddr>);
+    type Found = Gathered<'b, 'a>;
 
-    ghost is_found = { λ text found. ((catalogue : List NamedModel) → AreNamed catalogue text.models.now text.statements.now → Gathers catalogue found.0 text.statements.now) × AreDevices found.1.items text.statements.now };
+    ghost is_found = { λ text gathered. (catalogue : List NamedModel) → AreNamed catalogue text.models.now text.statements.now → Gathers catalogue gathered text.statements.now };
 
-    fn found(&self, alloc: Global) -> Result<(Gathered<'b, 'a>, Vec<IndAddr>), AllocError> {
-        let gathered = Gathered::of(alloc, self.models, self.statements)?;
-        let devices = ascending_devices(alloc, self.statements)?;
-        Ok((gathered, devices))
+    fn found(&self, alloc: Global) -> Result<Gathered<'b, 'a>, AllocError> {
+        Gathered::of(alloc, self.models, self.statements)
     }
 }
 
@@ -129,23 +129,24 @@ fn found_beside<R: Threads + Sync, S: Search + Sync>(
     )
 }
 
-/// The models that a text names, and its links in the order of the text.
+/// The models that a text names and its devices, and its links in the order of the text.
 pub fn named_in_threads<'a, R: Threads + Sync>(
     rt: &R,
     alloc: Global,
     catalogue: &'a Catalogue,
     statements: &'a [Statement<'a>],
 ) -> (
-    Result<NamedModels<'a>, AllocError>,
+    Result<(NamedModels<'a>, Vec<IndAddr>), AllocError>,
     Result<Vec<LinkLine>, AllocError>,
 )
-    ensures models { IfOk result.0 (λ models. AreNamed catalogue.now models statements.now) }
+    ensures models { IfOk result.0 (λ found. AreNamed catalogue.now found.0 statements.now) }
+    ensures devices { IfOk result.0 (λ found. AreDevices found.1.items statements.now) }
     ensures links { IfOk result.1 (λ links. links.items ≡ link_lines statements.now) }
 {
     both_found(
         rt,
         alloc,
-        &OfModels {
+        &OfNames {
             catalogue,
             statements,
         },
@@ -153,19 +154,15 @@ pub fn named_in_threads<'a, R: Threads + Sync>(
     )
 }
 
-/// What is known of a text but of its links, and its devices; and its links, which were in the order of the text, ascending.
+/// What is known of a text but of its links, and its links, which were in the order of the text, ascending.
 pub fn gathered_in_threads<'b, 'a, R: Threads + Sync>(
     rt: &R,
     alloc: Global,
     models: &'b NamedModels<'a>,
     statements: &'a [Statement<'a>],
     links: Vec<LinkLine>,
-) -> (
-    Result<(Gathered<'b, 'a>, Vec<IndAddr>), AllocError>,
-    SortedLinks,
-)
-    ensures gathered { IfOk result.0 (λ found. (catalogue : List NamedModel) → AreNamed catalogue models.now statements.now → Gathers catalogue found.0 statements.now) }
-    ensures devices { IfOk result.0 (λ found. AreDevices found.1.items statements.now) }
+) -> (Result<Gathered<'b, 'a>, AllocError>, SortedLinks)
+    ensures gathered { IfOk result.0 (λ gathered. (catalogue : List NamedModel) → AreNamed catalogue models.now statements.now → Gathers catalogue gathered statements.now) }
     ensures links { (ss : List Stated) → links.items ≡ link_lines ss → AreSorted result.1 ss }
 {
     found_beside(rt, alloc, &OfRest { models, statements }, links)

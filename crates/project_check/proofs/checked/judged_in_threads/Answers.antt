@@ -12,12 +12,12 @@ returns-clause-found g c =
     let catalogue = c.args.catalogue.now in
     let ss = c.args.statements.now in
     let models = c.in_ok-models.models in
-    let named = IfOk-at_ok (λ models. AreNamed catalogue models ss) c.in_ok-models.was c.named_in_threads-models.ensures.models in
-    let lines = IfOk-at_ok (λ links. links.items ≡ link_lines ss) c.in_ok-links.was c.named_in_threads-models.ensures.links in
-    let gathered = IfOk-at_ok (λ found. (catalogue : List NamedModel) → AreNamed catalogue models ss → Gathers catalogue found.0 ss) c.in_ok-gathered.was c.gathered_in_threads-gathered.ensures.gathered in
+    let named = IfOk-at_ok (λ found. AreNamed catalogue found.0 ss) c.in_ok-models.was c.named_in_threads-named.ensures.models in
+    let lines = IfOk-at_ok (λ links. links.items ≡ link_lines ss) c.in_ok-links.was c.named_in_threads-named.ensures.links in
+    let gathered = IfOk-at_ok (λ gathered. (catalogue : List NamedModel) → AreNamed catalogue models ss → Gathers catalogue gathered ss) c.in_ok-gathered.was c.gathered_in_threads-gathered.ensures.gathered in
     let links = c.gathered_in_threads-gathered.ensures.links ss lines in
     let declares = c.of-whole.ensures catalogue ss (gathered catalogue named) links in
     found_of_all c.of-whole.result catalogue ss declares _ c.in_ok-found.ensures
 
 pub returns-clause-devices : goal.returns-clause-devices
-returns-clause-devices g c = IfOk-at_ok (λ found. AreDevices found.1.items c.args.statements.now) c.in_ok-gathered.was c.gathered_in_threads-gathered.ensures.devices
+returns-clause-devices g c = IfOk-at_ok (λ found. AreDevices found.1.items c.args.statements.now) c.in_ok-models.was c.named_in_threads-named.ensures.devices
