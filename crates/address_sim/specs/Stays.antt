@@ -1,6 +1,6 @@
 -- What stays of the simulated bus while it is driven, all that it began with, in the lines of a line's script, for these are what a link says that stays:
 -- the tunnel's address first; then each unit, one in programming mode by another line than one that isn't; then what is lost.
-use Rattle.std.specs.Prelude.{ℕ, true, false, List, [], ◌∷◌, ◌++◌, map, Bool, if◌then◌else◌}
+use Rattle.std.specs.Prelude.{◌∷◌, ◌++◌, map, if◌then◌else◌}
 use Rattle.knx_model.specs.declared.script.ScriptWhat.{ScriptWhat}
 use Rattle.knx_model.specs.declared.script.ScriptWhat.TheVariants.{LoseTo, LoseFrom, Off, Standard}
 use Rattle.line_model.specs.Lines.{Script}

@@ -6,11 +6,10 @@ use Rattle.knx_model.specs.Cemi.{Written as cemi_octets}
 use Rattle.line_model.specs.Fresh.{IsFresh, HasNothingToSend, Settled}
 use Rattle.line_model.specs.Gateway.{Channel, Request, next_put}
 use Rattle.line_model.specs.Legal.{MayHappen}
-use Rattle.line_model.specs.Tunnel as tunnel
 use Rattle.line_model.specs.Tunnel.{Mode, Commissions, Serves, Tunnel, after, puts}
 use Rattle.line_model.specs.World.{World, Event, Pass, now, replay, step, tunnel_event}
 use Rattle.bus_sim.specs.RunNow.{RunNow, RunState, Keeps, mode, seen, world as world_of}
-use Rattle.bus_sim.specs.Turns.{Passes, PassesQuietly}
+use Rattle.bus_sim.specs.Turns.{PassesQuietly}
 use Rattle.bus_sim.specs.Went.{Went, world}
 
 -- ---- what the gateway puts next

@@ -1,6 +1,6 @@
 -- What a poll of a run does: events that are not the client's, and then the datagram that it gets, within the wait, or the end of the
 -- wait, at which nothing is due.
-use Rattle.std.specs.Prelude.{◌≡◌, ℕ, ◌+◌, ◌<◌, ◌≤◌, List, length, Option, Some, None}
+use Rattle.std.specs.Prelude.{◌≡◌, ℕ, ◌+◌, ◌≤◌, List, length, Option, Some, None}
 use Rattle.line_model.specs.declared.outside.link.Polled.{Polled}
 use Rattle.line_model.specs.LinkStory.{GoesOn, Polls}
 use Rattle.line_model.specs.Record.{Got, Quiet}

@@ -14,7 +14,7 @@ use Rattle.knx_model.specs.declared.address.IndAddr.{IndAddr}
 use Rattle.knx_model.specs.declared.project.Statement.{Statement}
 use Rattle.knx_model.specs.declared.project.What.{What}
 use Rattle.knx_model.specs.declared.project.What.TheVariants.{Version, Title, Group, Device, Object, Link, Send, Flags, Param}
-use Rattle.knx_model.specs.Meaning.{links_said, link_lines, send_line, object_line, flags_line, param_line}
+use Rattle.knx_model.specs.Meaning.{links_said, send_line, object_line, flags_line, param_line}
 use Rattle.knx_model.specs.Rules.{model_in}
 use Rattle.project_check.specs.Devices.{raw_of}
 use Rattle.project_check.proofs.Steps.{first_more}

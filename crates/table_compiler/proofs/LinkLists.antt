@@ -1,18 +1,17 @@
 -- The links that lines give a device.
-use Rattle.std.proofs.Common.{◌≡◌, ℕ, ◌+◌, ◌<◌, ◌≤◌, Bool, true, false, cond, List, [], ◌∷◌, ◌++◌, length, get_or, map, take, eqb, All, Option, Some, None, refl, sym, ap, ◌∙◌, arith}
+use Rattle.std.proofs.Common.{◌≡◌, ℕ, ◌+◌, ◌<◌, ◌≤◌, Bool, true, false, cond, List, [], ◌∷◌, ◌++◌, length, get_or, take, eqb, Option, Some, None, refl, sym, ap, ◌∙◌, arith}
 use Rattle.std.specs.List.{AllPairs}
 use Rattle.std.specs.Option.{option_or}
-use Rattle.std.proofs.lemmas.List.{get_or_default, get_or-map, length-map, take_more, take_all, map-append}
-use Rattle.std.proofs.lemmas.List.Elements.{All-push}
+use Rattle.std.proofs.lemmas.List.{get_or-map, length-map, take_more, take_all}
 use Rattle.knx_model.specs.declared.address.GroupAddr.{GroupAddr}
 use Rattle.knx_model.specs.declared.address.IndAddr.{IndAddr}
 use Rattle.knx_model.specs.declared.catalogue.model.NamedModel.{NamedModel}
 use Rattle.knx_model.specs.declared.config.LinkSpec.{LinkSpec}
 use Rattle.knx_model.specs.declared.project.Statement.{Statement}
-use Rattle.knx_model.specs.Meaning.{first_group, sending_group, is_the_group, link_of, links_of, link_lines, last_send}
+use Rattle.knx_model.specs.Meaning.{first_group, link_of, links_of, link_lines, last_send}
 use Rattle.knx_model.specs.Rules.{first_broken}
 use Rattle.knx_model.specs.Tables.{raw_of}
-use Rattle.table_compiler.specs.Order.{IsLink, AreApart}
+use Rattle.table_compiler.specs.Order.{AreApart}
 use Rattle.table_compiler.proofs.Sound.{Apart, few_lines, lines_apart}
 
 pub length-links_of : (sends : ℕ → Option GroupAddr) (lines : List (ℕ × GroupAddr)) → length (links_of sends lines) ≡ length lines

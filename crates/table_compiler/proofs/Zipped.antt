@@ -1,9 +1,8 @@
 -- The drafts of devices are sound, and their images are the devices'.
-use Rattle.std.proofs.Common.{◌≡◌, ℕ, suc, zero, ◌+◌, ◌<◌, List, [], ◌∷◌, length, map, get_or, take, drop, None, Result, Ok, refl, ap, subst, arith}
+use Rattle.std.proofs.Common.{◌≡◌, ℕ, suc, ◌+◌, List, [], ◌∷◌, map, get_or, take, drop, None, Result, Ok, subst, arith}
 use Rattle.std.specs.Prelude.{All, IfOk}
 use Rattle.std.specs.List.{AllZip}
 use Rattle.std.specs.List.Sorted.{IsStrictlyIncreasing}
-use Rattle.std.specs.Borrow.{Bor}
 use Rattle.std.proofs.lemmas.List.{get_or-take, get_or-drop, length-take, length-drop, take-map, drop-map}
 use Rattle.knx_model.specs.declared.address.IndAddr.{IndAddr}
 use Rattle.knx_model.specs.declared.catalogue.model.NamedModel.{NamedModel}
@@ -11,7 +10,7 @@ use Rattle.knx_model.specs.declared.config.Image.{Image}
 use Rattle.knx_model.specs.declared.project.Statement.{Statement}
 use Rattle.knx_model.specs.Rules.{first_broken}
 use Rattle.project_check.specs.Devices.{raw_of}
-use Rattle.table_compiler.specs.Drafts.{AreDrafts, IsDraft, IsSoundDraft}
+use Rattle.table_compiler.specs.Drafts.{AreDrafts, IsSoundDraft}
 use Rattle.table_compiler.specs.Images.{IsImage, IsImageOfDraft}
 use Rattle.table_compiler.specs.declared.drafts.Draft.{Draft}
 

@@ -1,5 +1,4 @@
-use Rattle.std.proofs.Common.{◌≡◌, ◌∙◌, ◌≤◌, ap, sym, subst, length, All, List, arith}
-use Rattle.std.specs.List.{AllPairs}
+use Rattle.std.proofs.Common.{◌≡◌, ◌∙◌, ap, sym, subst, length, All, List, arith}
 use Rattle.knx_model.specs.declared.config.Config.{Config}
 use Rattle.knx_model.specs.declared.config.LinkSpec.{LinkSpec}
 use Rattle.knx_model.specs.Device.{Fits}
@@ -10,7 +9,7 @@ use Rattle.knx_model.specs.declared.project.Statement.{Statement}
 use Rattle.table_compiler.specs.Drafts.{IsDraft}
 use Rattle.knx_model.specs.Rules.{model_of, named_model}
 use Rattle.knx_model.specs.Tables.{StandsFor}
-use Rattle.table_compiler.specs.Order.{IsLink, AreApart}
+use Rattle.table_compiler.specs.Order.{IsLink}
 use Rattle.table_compiler.proofs.Compiled.{if_both, few_links, few_range, once, settings_are, memory_holds}
 use Rattle.table_compiler.proofs.compiler.compile_draft.Goals as goal
 

@@ -1,4 +1,3 @@
-use Rattle.std.proofs.Common.{true}
 use Rattle.bus_sim.proofs.Resting.{ends_settled, passes_so, some_time, untrue}
 use Rattle.bus_sim.proofs.run.Run.let_pass.Goals as goal
 

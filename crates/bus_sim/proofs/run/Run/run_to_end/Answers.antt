@@ -1,6 +1,6 @@
-use Rattle.std.proofs.Common.{◌<◌, ◌≤◌, refl, ap, subst}
+use Rattle.std.proofs.Common.{◌<◌, ◌≤◌, refl, subst}
 use Rattle.bus_sim.specs.Polls.{StopsWithin}
-use Rattle.bus_sim.specs.Turns.{Turns, Passes, PassesQuietly}
+use Rattle.bus_sim.specs.Turns.{Turns, Passes}
 use Rattle.bus_sim.proofs.Polling.{OnErrAny, happens_smaller, goes_on, time_goes, stops, ends_got, over_at}
 use Rattle.bus_sim.proofs.Turning.{goes_same}
 use Rattle.bus_sim.proofs.run.Run.run_to_end.Goals as goal
