@@ -133,7 +133,7 @@ module _ (new old : Installation) (script : Script) (had : ℕ → Option NonVol
   case_means : (device : ℕ) (first d : DeviceState) (image : Image) → start.devices device ≡ Some first → OldStoppedOr (RunsJob jobs device) first.kept d.kept → runs d.kept ≡ Some image → MeansEither had old new device d.kept image
   case_means device first d image there (inl same) e =
       inl (subst (λ (nv : NonVolatile). IsAsBegun old (had device) device nv image) (sym same)
-          (begins_meaning new old script device (had device) (is_on_bus new old device) (start.devices device) first image range refl (bus.devices device) there (ap runs (sym same) ∙ e)))
+      (begins_meaning new old script device (had device) (is_on_bus new old device) (start.devices device) first image range refl (bus.devices device) there (ap runs (sym same) ∙ e)))
   case_means device first d image there (inr (inl stopped)) e = absurd (let none : None ≡ Some image = sym stopped ∙ e in cc)
   case_means device first d image there (inr (inr r)) e = inr (job_means device d.kept image r e)
 
