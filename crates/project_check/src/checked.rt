@@ -9,7 +9,7 @@ ghost use Rattle.project_check.specs.Devices.{raw_of, AreDevices};
 
 use crate::counted::totals_of;
 use crate::devices::{ascending_devices, first_device};
-use crate::gathering::{gathered_in_threads, named_in_threads};
+use crate::gathering::gathered_in_threads;
 use crate::links::sorted_links;
 use crate::named_models::NamedModels;
 use crate::parts::{first_between, first_in_threads};
@@ -118,12 +118,12 @@ fn judged_in_threads<R: Threads + Sync>(
     ensures found { IfOk result (λ judged. judged.0 ≡ first_broken catalogue.now statements.now) }
     ensures devices { IfOk result (λ judged. AreDevices judged.1.items statements.now) }
 {
-    let (named, links) = named_in_threads(rt, alloc, catalogue, statements);
-    let (models, devices) = named?;
-    let links = links?;
-    let (gathered, sorted) = gathered_in_threads(rt, alloc, &models, statements, links);
+    let models = NamedModels::of(alloc, catalogue, statements)?;
+    let (gathered, devices, links) = gathered_in_threads(rt, alloc, &models, statements);
     let gathered = gathered?;
-    let whole = Whole::of(gathered, sorted);
+    let devices = devices?;
+    let links = links?;
+    let whole = Whole::of(gathered, links);
     let found = first_in_threads(rt, alloc, &whole, statements)?;
     Ok((found, devices))
 }

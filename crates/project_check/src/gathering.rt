@@ -1,169 +1,122 @@
-//! What is known of a whole text, in two steps of two threads each: the models that it names and its devices beside its links, then what it
-//! declares while the links are sorted.
+//! What is known of a whole text, and its devices, are gathered beside its links, which are sorted meanwhile.
 
-ghost use Rattle.std.specs.Prelude.{◌≡◌, List, IfOk};
+ghost use Rattle.std.specs.Prelude.{List, IfOk};
 ghost use Rattle.std.specs.Thread.{IsSync};
 ghost use Rattle.knx_model.specs.declared.catalogue.model.NamedModel.{NamedModel};
 ghost use Rattle.knx_model.specs.declared.project.Statement.{Statement as Stated};
 ghost use Rattle.project_check.specs.Devices.{AreDevices};
 ghost use Rattle.project_check.specs.Knowing.{AreNamed, Gathers};
-ghost use Rattle.project_check.specs.Links.{link_lines, AreSorted};
+ghost use Rattle.project_check.specs.Links.{AreSorted};
 
 use crate::devices::ascending_devices;
-use crate::links::{LinkLine, SortedLinks, link_lines, sorted_in_threads};
+use crate::links::{SortedLinks, sorted_links_in_threads};
 use crate::named_models::NamedModels;
 use crate::rules::Gathered;
-use knx_model::{Catalogue, IndAddr, Statement};
+use knx_model::{IndAddr, Statement};
 use std::alloc::{AllocError, Global};
 use std::thread::{Threads, join};
 
-/// Something that is to be found in a text. It is a trait so that the type which threads share names no lifetime: else nothing would be
-/// known of what they find.
-trait Search {
-    /// What is found.
-    type Found: Drop + Send;
+/// A text of which something is to be known. It is a trait so that the type which threads share names no lifetime: else nothing would
+/// be known of what they find.
+trait Source {
+    /// What is gathered of it, but for its links.
+    type Gathered: Drop + Send;
 
-    /// Whether this is what was to be found.
-    ghost is_found: { Self → Self.Found → Type 0 };
+    /// The statements of the text.
+    ghost text: { Self → List Stated };
 
-    /// Finds it.
-    fn found(&self, alloc: Global) -> Result<Self::Found, AllocError>
-        ensures { IfOk result (is_found self.now) };
+    /// What is gathered is known of the text.
+    ghost is_known: { Self → Self.Gathered → Type 0 };
+
+    /// What is known of the text but of its links.
+    fn gathered(&self, alloc: Global) -> Result<Self::Gathered, AllocError>
+        ensures { IfOk result (is_known self.now) };
+
+    /// Its devices, ascending.
+    fn devices(&self, alloc: Global) -> Result<Vec<IndAddr>, AllocError>
+        ensures { IfOk result (λ devices. AreDevices devices.items (text self.now)) };
+
+    /// Its links, which are sorted in threads.
+    fn links<R: Threads + Sync>(&self, rt: &R, alloc: Global) -> Result<SortedLinks, AllocError>
+        requires { IsSync R.row }
+        ensures { IfOk result (λ links. AreSorted links (text self.now)) };
 }
 
-/// For what the `device` lines name: the models, and the devices.
+/// A text, and the models that its `device` lines name.
 #[derive(Clone, Copy)]
-struct OfNames<'a> {
-    catalogue: &'a Catalogue,
-    statements: &'a [Statement<'a>],
-}
-
-impl<'a> Search for OfNames<'a> {
-    type Found = (NamedModels<'a>, Vec<IndAddr>);
-
-    ghost is_found = { λ text found. AreNamed text.catalogue.now found.0 text.statements.now × AreDevices found.1.items text.statements.now };
-
-    fn found(&self, alloc: Global) -> Result<(NamedModels<'a>, Vec<IndAddr>), AllocError> {
-        let models = NamedModels::of(alloc, self.catalogue, self.statements)?;
-        let devices = ascending_devices(alloc, self.statements)?;
-        Ok((models, devices))
-    }
-}
-
-/// For the links.
-#[derive(Clone, Copy)]
-struct OfLinks<'a> {
-    statements: &'a [Statement<'a>],
-}
-
-impl Search for OfLinks<'_> {
-    type Found = Vec<LinkLine>;
-
-    ghost is_found = { λ text links. links.items ≡ link_lines text.statements.now };
-
-    fn found(&self, alloc: Global) -> Result<Vec<LinkLine>, AllocError> {
-        link_lines(alloc, self.statements)
-    }
-}
-
-/// For what is known but of the links, where the models are known.
-#[derive(Clone, Copy)]
-struct OfRest<'b, 'a> {
+struct Text<'b, 'a> {
     models: &'b NamedModels<'a>,
     statements: &'a [Statement<'a>],
 }
 
-impl<'b, 'a> Search for OfRest<'b, 'a> {
-    type Found = Gathered<'b, 'a>;
+impl<'b, 'a> Source for Text<'b, 'a> {
+    type Gathered = Gathered<'b, 'a>;
 
-    ghost is_found = { λ text gathered. (catalogue : List NamedModel) → AreNamed catalogue text.models.now text.statements.now → Gathers catalogue gathered text.statements.now };
+    ghost text = { λ text. text.statements.now };
 
-    fn found(&self, alloc: Global) -> Result<Gathered<'b, 'a>, AllocError> {
+    ghost is_known = { λ text gathered. (catalogue : List NamedModel) → AreNamed catalogue text.models.now text.statements.now → Gathers catalogue gathered text.statements.now };
+
+    fn gathered(&self, alloc: Global) -> Result<Gathered<'b, 'a>, AllocError> {
         Gathered::of(alloc, self.models, self.statements)
+    }
+
+    fn devices(&self, alloc: Global) -> Result<Vec<IndAddr>, AllocError> {
+        ascending_devices(alloc, self.statements)
+    }
+
+    fn links<R: Threads + Sync>(&self, rt: &R, alloc: Global) -> Result<SortedLinks, AllocError> {
+        sorted_links_in_threads(rt, alloc, self.statements)
     }
 }
 
-/// What two searches find, side by side.
-fn both_found<R: Threads + Sync, S: Search + Sync, T: Search + Sync>(
+/// What is gathered of a text and its devices, and its links, side by side.
+fn side_by_side<R: Threads + Sync, S: Source + Sync>(
     rt: &R,
     alloc: Global,
-    one: &S,
-    other: &T,
-) -> (Result<S::Found, AllocError>, Result<T::Found, AllocError>)
-    ensures one { IfOk result.0 (S.is_found one.now) }
-    ensures other { IfOk result.1 (T.is_found other.now) }
-{
-    join(
-        rt,
-        || -> Result<S::Found, AllocError>
-            requires { IsSync S.row }
-            ensures { IfOk result (S.is_found one.entry.now) }
-        { one.found(alloc) },
-        || -> Result<T::Found, AllocError>
-            requires { IsSync T.row }
-            ensures { IfOk result (T.is_found other.entry.now) }
-        { other.found(alloc) },
-    )
-}
-
-/// What a search finds while links are sorted, in as many threads as there are processors.
-fn found_beside<R: Threads + Sync, S: Search + Sync>(
-    rt: &R,
-    alloc: Global,
-    search: &S,
-    links: Vec<LinkLine>,
-) -> (Result<S::Found, AllocError>, SortedLinks)
-    ensures found { IfOk result.0 (S.is_found search.now) }
-    ensures links { (ss : List Stated) → links.items ≡ link_lines ss → AreSorted result.1 ss }
-{
-    join(
-        rt,
-        || -> Result<S::Found, AllocError>
-            requires { IsSync S.row }
-            ensures { IfOk result (S.is_found search.entry.now) }
-        { search.found(alloc) },
-        move || -> SortedLinks
-            requires { IsSync R.row }
-            ensures { (ss : List Stated) → links.items ≡ link_lines ss → AreSorted result ss }
-        { sorted_in_threads(rt, links) },
-    )
-}
-
-/// The models that a text names and its devices, and its links in the order of the text.
-pub fn named_in_threads<'a, R: Threads + Sync>(
-    rt: &R,
-    alloc: Global,
-    catalogue: &'a Catalogue,
-    statements: &'a [Statement<'a>],
+    source: &S,
 ) -> (
-    Result<(NamedModels<'a>, Vec<IndAddr>), AllocError>,
-    Result<Vec<LinkLine>, AllocError>,
+    Result<S::Gathered, AllocError>,
+    Result<Vec<IndAddr>, AllocError>,
+    Result<SortedLinks, AllocError>,
 )
-    ensures models { IfOk result.0 (λ found. AreNamed catalogue.now found.0 statements.now) }
-    ensures devices { IfOk result.0 (λ found. AreDevices found.1.items statements.now) }
-    ensures links { IfOk result.1 (λ links. links.items ≡ link_lines statements.now) }
+    ensures gathered { IfOk result.0 (S.is_known source.now) }
+    ensures devices { IfOk result.1 (λ devices. AreDevices devices.items (S.text source.now)) }
+    ensures links { IfOk result.2 (λ links. AreSorted links (S.text source.now)) }
 {
-    both_found(
+    let ((gathered, devices), links) = join(
         rt,
-        alloc,
-        &OfNames {
-            catalogue,
-            statements,
-        },
-        &OfLinks { statements },
-    )
+        || -> (
+            Result<S::Gathered, AllocError>,
+            Result<Vec<IndAddr>, AllocError>,
+        )
+            requires { IsSync S.row }
+            ensures gathered { IfOk result.0 (S.is_known source.entry.now) }
+            ensures devices { IfOk result.1 (λ devices. AreDevices devices.items (S.text source.entry.now)) }
+        { (source.gathered(alloc), source.devices(alloc)) },
+        || -> Result<SortedLinks, AllocError>
+            requires { IsSync R.row × IsSync S.row }
+            ensures { IfOk result (λ links. AreSorted links (S.text source.entry.now)) }
+        { source.links(rt, alloc) },
+    );
+    (gathered, devices, links)
 }
 
-/// What is known of a text but of its links, and its links, which were in the order of the text, ascending.
+/// What is known of a text but of its links, its devices, and its links. The first two are gathered in a thread of its own, the links are
+/// sorted in as many as there are processors.
 pub fn gathered_in_threads<'b, 'a, R: Threads + Sync>(
     rt: &R,
     alloc: Global,
     models: &'b NamedModels<'a>,
     statements: &'a [Statement<'a>],
-    links: Vec<LinkLine>,
-) -> (Result<Gathered<'b, 'a>, AllocError>, SortedLinks)
+) -> (
+    Result<Gathered<'b, 'a>, AllocError>,
+    Result<Vec<IndAddr>, AllocError>,
+    Result<SortedLinks, AllocError>,
+)
     ensures gathered { IfOk result.0 (λ gathered. (catalogue : List NamedModel) → AreNamed catalogue models.now statements.now → Gathers catalogue gathered statements.now) }
-    ensures links { (ss : List Stated) → links.items ≡ link_lines ss → AreSorted result.1 ss }
+    ensures devices { IfOk result.1 (λ devices. AreDevices devices.items statements.now) }
+    ensures links { IfOk result.2 (λ links. AreSorted links statements.now) }
 {
-    found_beside(rt, alloc, &OfRest { models, statements }, links)
+    let text = Text { models, statements };
+    side_by_side(rt, alloc, &text)
 }

@@ -62,7 +62,7 @@ fn add_line(links: &mut Vec<LinkLine>, place: usize, what: &What<'_>) -> Result<
 }
 
 /// The links of the `link` lines, in the order of the text.
-pub fn link_lines(alloc: Global, statements: &[Statement<'_>]) -> Result<Vec<LinkLine>, AllocError>
+fn link_lines(alloc: Global, statements: &[Statement<'_>]) -> Result<Vec<LinkLine>, AllocError>
     ensures { IfOk result (λ links. links.items ≡ link_lines statements.now) }
 {
     let mut links = Vec::with_capacity(alloc, statements.len())?;
@@ -135,13 +135,17 @@ pub fn sorted_links(alloc: Global, statements: &[Statement<'_>]) -> Result<Sorte
     Ok(SortedLinks::of(links))
 }
 
-/// The same of the links of a text in its order, which are sorted in as many threads as there are processors.
-pub fn sorted_in_threads<R: Threads + Sync>(rt: &R, links: Vec<LinkLine>) -> SortedLinks
-    ensures { (ss : List Stated) → links.items ≡ link_lines ss → AreSorted result ss }
+/// The same as `sorted_links`, where they are sorted in as many threads as there are processors.
+pub fn sorted_links_in_threads<R: Threads + Sync>(
+    rt: &R,
+    alloc: Global,
+    statements: &[Statement<'_>],
+) -> Result<SortedLinks, AllocError>
+    ensures { IfOk result (λ sorted. AreSorted sorted statements.now) }
 {
-    let mut links = links;
+    let mut links = link_lines(alloc, statements)?;
     par_sort_unstable(rt, links.as_mut_slice());
-    SortedLinks::of(links)
+    Ok(SortedLinks::of(links))
 }
 
 /// Whether a link is one of these, which ascend.
