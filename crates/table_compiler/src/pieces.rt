@@ -20,6 +20,9 @@ use std::thread::{Threads, join};
 /// How few devices are worth a thread of their own.
 const LEAST_PIECE: usize = 4;
 
+/// How many pieces there are for each processor, since one may have other work.
+const PIECES: usize = 2;
+
 /// The image of each draft, in order.
 fn compile_drafts(
     alloc: Global,
@@ -116,7 +119,7 @@ fn images_in_halves<R: Threads + Sync, C: Compiles + Sync>(
     Ok(all)
 }
 
-/// The images of these devices of a text that breaks no rule. There is a piece of them for each processor.
+/// The images of these devices of a text that breaks no rule. There are some pieces of them for each processor.
 pub fn compile_devices<R: Threads + Sync>(
     rt: &R,
     alloc: Global,
@@ -132,7 +135,7 @@ pub fn compile_devices<R: Threads + Sync>(
         catalogue,
         statements,
     };
-    let most = devices.len() / current_num_threads(rt) + 1;
+    let most = devices.len() / PIECES / current_num_threads(rt) + 1;
     let images = images_in_halves(rt, alloc, &text, most.max(LEAST_PIECE), devices)?;
     Ok(List::from_vec(images))
 }
