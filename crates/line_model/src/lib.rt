@@ -18,10 +18,10 @@ pub use gateway_end::{GatewayExpired, GatewayTook};
 pub use group::{GroupTurn, Indication};
 pub use laws::{
     a_channel_is_lost_in_its_ways, a_client_counts_what_it_gets, a_cut_ends_the_connection,
-    a_device_changes_by_what_reaches_it, a_device_closes_its_connection,
-    a_gateway_keeps_its_channel, channel_numbers_come_again, confirmations_are_true,
-    datagrams_arrive, devices_begin_as_the_script_says, frames_are_read, power_comes_back,
-    the_tunnel_runs_in_the_line, what_comes_to_no_device_changes_none,
+    a_device_acts_as_it_began_or_by_its_new_project, a_device_changes_by_what_reaches_it,
+    a_device_closes_its_connection, a_gateway_keeps_its_channel, channel_numbers_come_again,
+    confirmations_are_true, datagrams_arrive, devices_begin_as_the_script_says, frames_are_read,
+    power_comes_back, the_tunnel_runs_in_the_line, what_comes_to_no_device_changes_none,
 };
 pub use log::{LogEntry, LogWhat, Report};
 pub use outside::{
